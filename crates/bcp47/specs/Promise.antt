@@ -24,8 +24,8 @@ use Rattle.bcp47.specs.declared.errors.RegistryError.TheVariants as errors
 pub record Promise (R : List EntryParts) : Type 0 where
   -- each record meets each of the twelve conditions
   pub checked : IsChecked R
-  -- A valid tag reaches a canonical tag, from which no step leads, and steps can repeat no variant of it; or they can
-  -- repeat one.
+  -- Of a valid tag one of two things is true: steps lead from it to a canonical tag, from which no step leads, and can
+  -- repeat no variant of it; or steps can repeat a variant of it.
   pub canonical : CanonicalOrRepeats R
   -- a valid tag of which steps can repeat a variant is equivalent to no canonical tag
   pub formless : RepeatsHaveNoForm R
@@ -49,7 +49,7 @@ IsReadingOf bytes (Err (faults.Record fault)) =
     (records : List (List Field)) × HasRecords bytes records × IsWithin bytes records × IsRecordRefusal records fault
 IsReadingOf bytes (Err (faults.Jar fault)) = IsFaultOf bytes fault
 
--- why a reading gives no registry that passes the check; OutOfMemory may be answered of any reading
+-- why a reading gives no registry that passes the check; OutOfMemory may be answered for any reading
 abbrev pub IsRefusal : Reading → RegistryError → Type 0
 IsRefusal reading (errors.Jar fault) = (reading ≡ Err (faults.Jar fault)) × (fault.kind ≢ jar_kinds.OutOfMemory)
 IsRefusal reading (errors.Record fault) =

@@ -74,7 +74,7 @@ impl Model for Registry {
 impl fmt::Debug for Registry {
     ghost debug_output = { λ entries. Some (registry_shown entries) };
 
-    /// The number of its entries alone, for example `Registry { entries: 7 }`.
+    /// Only the number of its entries, for example `Registry { entries: 7 }`.
     fn fmt<W: fmt::Write>(&self, f: &mut fmt::Formatter<W>) -> fmt::Result {
         let entries = self.entries().len();
         write!(f, "Registry {{ entries: {entries} }}")
@@ -163,7 +163,7 @@ impl Registry {
 
     /// The entry of a subtag under a kind (RFC 5646, 3.1.4): the first record of the kind that names this subtag and no
     /// other; or, without such a record, the first whose range holds it: `qaa..qtz` holds `qab`. None if the subtag is not
-    /// registered; no subtag has an entry as a grandfathered or redundant tag.
+    /// registered under that kind, and for the kinds of grandfathered and redundant tags, which no subtag is.
     pub fn entry(&self, kind: Kind, subtag: &Subtag) -> Option<&Entry>
         ensures { option_copied result ≡ listed.entry self.now kind subtag.now }
     {
@@ -235,9 +235,9 @@ impl Registry {
         lt_cache::append_canonical_text(alloc, &self.checked, text, texts)
     }
 
-    /// The extlang form of a tag (RFC 5646, 4.5): its canonical form and, if the language of that is registered as an
-    /// extlang too, the Prefix of that extlang in front of it, unless that has 4 to 8 letters. `cmn-Hans` gives
-    /// `zh-cmn-Hans`. It is refused as `canonical` refuses.
+    /// The extlang form of a tag (RFC 5646, 4.5): its canonical form; and if the language of the canonical form is
+    /// registered as an extlang too, with the Prefix of that extlang in front, unless the Prefix has 4 letters or more.
+    /// `cmn-Hans` gives `zh-cmn-Hans`. It is refused as `canonical` refuses.
     pub fn extlang_form(&self, alloc: Global, tag: &Tag) -> Result<Tag, Refusal>
         ensures form { IfOk result (λ form. IsExtlangFormOf self.now tag.now form) }
         ensures refusal { IfErr result (λ refusal. IsRefusedWith self.now tag.now refusal) }
@@ -298,12 +298,12 @@ impl Registry {
         lt_canon::verify(alloc, &self.checked, tag, trace)
     }
 
-    /// The language range by which a text matches (RFC 4647, 2): where the text is a valid tag, the range of the subtags
-    /// of its extlang form (RFC 5646, 4.5); else the range that it is, with its first subtag in its extlang form, if it
-    /// alone is a valid tag. So `iw` finds what `he` finds, `yue-*` finds `zh-yue-HK`, and `zh-*` stays.
-    /// [`LanguageRange`](crate::LanguageRange) has the three ways of matching, and a list of ranges in order of priority
-    /// is what [`filter_basic`](crate::filter_basic), [`filter_extended`](crate::filter_extended) and
-    /// [`lookup`](crate::lookup) ask for.
+    /// The language range by which a text matches (RFC 4647, 2). If the text is a valid tag, it is the range of the
+    /// subtags of its extlang form (RFC 5646, 4.5). Any other text is read as a range, and its first subtag is replaced
+    /// by its extlang form if it is a valid tag by itself. So `iw` finds what `he` finds, `yue-*` finds `zh-yue-HK`,
+    /// and `zh-*` stays. [`LanguageRange`](crate::LanguageRange) has the three ways of matching, and a list of ranges
+    /// in order of priority is what [`filter_basic`](crate::filter_basic), [`filter_extended`](crate::filter_extended)
+    /// and [`lookup`](crate::lookup) ask for.
     ///
     /// - `NotARange`, with the fault that `LanguageRange::read` answers, exactly where the text is neither.
     /// - `ReplacementRepeats` where the text is a valid tag that `canonical` refuses so.
@@ -351,8 +351,8 @@ impl Registry {
     }
 
     /// The tags that texts are read as, in their order, prepared for [`Available::best`](crate::Available::best): a
-    /// service has one such list, and asks it once for each reader. It is refused at the first text that
-    /// `subtags_of_text` refuses, with its refusal and the number of the text, from 1.
+    /// service has one such list, and asks it once for each request. It is refused at the first text that
+    /// `subtags_of_text` refuses, with that refusal and the number of the text, counted from 1.
     pub fn available(&self, alloc: Global, texts: &[&[u8]]) -> Result<Available, AvailableRefusal>
         ensures available { IfOk result (λ lists. AreAvailable self.now (map (λ text. text.now) texts.now) (length texts.now) lists) }
         ensures refusal { IfErr result (IsAvailableRefusal self.now (map (λ text. text.now) texts.now)) }
@@ -374,7 +374,7 @@ impl Registry {
     /// with the members `place`, `kind`, `text`, `listing` (`Record`, `Unregistered` or `Unlisted`), `record` (its number,
     /// or null) and `fields`, an array of objects with a `name` and a `body`: those fields of its record that
     /// [`is_shown`](crate::is_shown) shows. The records are those of the registry's file. The only refusal is running out of
-    /// memory, after which a front of it may have been appended.
+    /// memory, after which a part of it may have been appended.
     pub fn append_rows(
         &self,
         alloc: Global,

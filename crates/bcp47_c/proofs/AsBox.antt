@@ -1,4 +1,5 @@
--- A handle that holds a registry, and the block of it, own what a box does.
+-- The types by which the proofs of `Handle::empty`, `of_block` and `into_block` name what a handle holds: a handle that
+-- holds a registry, and the block that is made of it, own the same as the registry's box.
 use mathlib.Core.List.{[]}
 use mir.Syntax.{impl, tnil, dnil}
 use denote.RattleType.{RattleType}

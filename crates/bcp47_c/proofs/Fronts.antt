@@ -1,5 +1,5 @@
--- The front of `told`, a list of steps in numbers: the steps up to the first that is none. What is known of the steps
--- of the front says what is right or wrong with all of `told`.
+-- Lemmas for `front_steps` and `judge`. The front of `told`, a list of steps in numbers, is the steps before the first
+-- numbers that are no step. What is known of the front's steps says what is right or wrong with all of `told`.
 use Rattle.std.proofs.Common.{◌≡◌, ◌≢◌, ℕ, ◌+◌, ◌<◌, ◌≤◌, inl, inr, List, [], ◌∷◌, ◌++◌, None, refl, sym, ap, ◌∙◌}
 use Rattle.std.proofs.Common.{subst, length, take, drop, get_or, append_assoc, arith}
 use Rattle.std.specs.Prelude.{map}

@@ -1,4 +1,4 @@
--- A kind of step has a number of its own.
+-- No two kinds of step have the same number, so a number names one kind at most, as the contract of `kind_name` says.
 use Rattle.std.proofs.Common.{◌≡◌, List, [], ◌∷◌, refl, sym, ap, ◌∙◌, get_or}
 use Rattle.lt_rewrite.specs.declared.steps.StepKind.{StepKind}
 use Rattle.lt_rewrite.specs.declared.steps.StepKind.TheVariants as steps

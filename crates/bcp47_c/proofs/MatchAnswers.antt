@@ -1,4 +1,5 @@
--- Whether a range matches a tag, from its parts and the subtags of the tag.
+-- Whether a range matches a tag is whether the range's parts match the tag's subtags, both of their extlang forms,
+-- since a range and a tag have one such form each. It is what `answer_match` compares.
 use Rattle.std.proofs.Common.{ℕ, ◌≡◌, ◌↔◌, Bool, IsTrue, List, [], inl, subst}
 use Rattle.std.specs.Prelude.{if◌then◌else◌}
 use Rattle.lt_tag.specs.Parts.{TagForm}
@@ -45,7 +46,8 @@ told_by_parts R C scheme range text parts list answer p q d = record {
   );
 }
 
--- where `answer` is whether the range matches the tag, and its status, `said`, is delivered, the call tells the match
+-- if `answer` is whether the range matches the tag, and the status for it, `said`, is delivered, that is what
+-- `TellsMatch` asks
 pub told_match : (R : List EntryParts) (scheme : Scheme) (range text before after : List ℕ) (answer : Bool)
     (said : Said) (o : Outcome) → IsMatchOf R scheme range text answer → said ≡ ended (if answer then 0 else 6)
     → IsDelivered said [] before after o → TellsMatch R scheme range text before after o

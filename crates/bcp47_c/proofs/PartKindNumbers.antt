@@ -1,4 +1,5 @@
--- A kind of part has a number of its own.
+-- No two kinds of part have the same number, so a number names one kind at most, as the contract of `part_kind_name`
+-- says.
 use Rattle.std.proofs.Common.{◌≡◌, List, [], ◌∷◌, refl, sym, ap, ◌∙◌, get_or}
 use Rattle.lt_show.specs.declared.kinds.PartKind.{PartKind}
 use Rattle.lt_show.specs.declared.kinds.PartKind.TheVariants as kinds

@@ -1,4 +1,4 @@
--- What is answered where bytes are no registry.
+-- What `bcp47_handle_open` answers if its bytes are no registry is what its contract, `Opens`, allows.
 use Rattle.std.proofs.Common.{List, ℕ, ◌≡◌, None, Err, inl, inr}
 use Rattle.bcp47.specs.Promise.{ReadsBytes}
 use Rattle.bcp47.specs.declared.errors.RegistryError.{RegistryError}

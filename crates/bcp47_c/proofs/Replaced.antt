@@ -1,5 +1,6 @@
--- A tag with a section replaced has the shape of a langtag (RFC 5646, 2.1), and the text that is made of it is read
--- as its list of subtags.
+-- For `replacing.rt`: a tag with a section replaced has the shape of a langtag (RFC 5646, 2.1), and the text that is
+-- made of its subtags is read as the list of them. So the only fault that the text can have is its length. `folded` is
+-- a text in lower case, `shown` a subtag in conventional case.
 use Rattle.std.proofs.Common.{◌≡◌, ℕ, ◌≤◌, ◌+◌, ◌-◌, true, List, [], ◌∷◌, ◌++◌, length, refl, sym, ap, ◌∙◌, arith, inl, inr, subst}
 use Rattle.std.specs.Prelude.{flat_map, option_to_list, position, drop, not, Some, IsSome}
 use Rattle.std.specs.List.{list_all, join_with_byte}
@@ -119,7 +120,7 @@ x_is : is_subtag x_subtag ≡ true
 unfolding is_subtag
 x_is = refl
 
--- each of the list that a shaped langtag spells is a subtag
+-- each text of the list that a shaped langtag spells is a subtag
 langtag_subtags : (c : CoreParts) (es : List ExtensionParts) (ps : List (List ℕ)) → IsLangTag c es ps
     → list_all is_subtag (spell (LangTag c es ps)) ≡ true
 langtag_subtags c es ps k =
@@ -195,11 +196,12 @@ conventional_length list =
 
 -- ---- what is written, and what is refused
 
--- memory may run out for any value, which is then none
+-- that memory ran out is allowed as the reason why any value is refused
 pub no_value_memory : (section : Section) (value : List ℕ) → IsNoValue section value no_memory
 no_value_memory section value = inl (inl (record { fault = memory_fault; owed = refl; told = refl }))
 
--- a value that is read as a tag, a subtag of which is in another section
+-- a value whose bearing text is read as a langtag, but whose subtag at `index` is in another section, is refused as
+-- Misplaced (6) at that subtag
 pub foreign_value : (section : Section) (value text : List ℕ) (tag : TagForm) (parts : List Part) (index : ℕ) (langtag
     : Langtag) → text ≡ bearing section value → length text ≤ longest_text → IsTag tag → spell tag ≡ list_of text
     → form langtag ≡ tag → parts ≡ parts_of tag
@@ -219,43 +221,43 @@ foreign_value section value text tag parts index langtag same short is_tag spell
       told = refl;
     })
 
--- a shaped langtag, and the text of its subtags joined by hyphens
+-- a shaped langtag, and the text `joined` of its subtags, joined by hyphens
 module _ (c : CoreParts) (es : List ExtensionParts) (ps : List (List ℕ)) (shaped : IsLangTag c es ps) (joined : List ℕ)
     (same : joined ≡ join_with_byte 45 (spell (LangTag c es ps))) where
   -- the text is read as the list that the langtag spells
   reads : list_of joined ≡ spell (LangTag c es ps)
   reads = ap list_of same ∙ joined_list c.language _ (langtag_subtags c es ps shaped)
 
-  -- what it is read as is written as the langtag is
+  -- if `joined` is read as the tag `whole`, that is written as the text of the langtag
   pub made_is : (whole : TagForm) (made : List ℕ) → spell whole ≡ list_of joined → made ≡ conventional (spell whole)
       → made ≡ text_of (LangTag c es ps)
   made_is whole made spelled written = written ∙ ap conventional (spelled ∙ reads)
 
-  -- the text of the langtag is as long
+  -- the text of the langtag is as long as `joined`
   as_long : length (text_of (LangTag c es ps)) ≡ length joined
   as_long = conventional_length (spell (LangTag c es ps)) ∙ ap length (sym same)
 
-  -- what it is read as is written in as many bytes
+  -- if `joined` is read as the tag `whole`, that is written in at most 1,024 bytes if `joined` has no more
   pub made_short : (whole : TagForm) (made : List ℕ) → spell whole ≡ list_of joined → made ≡ conventional (spell whole)
       → length joined ≤ longest_text → length made ≤ longest_text
   made_short whole made spelled written short = omega (arith, as_long, ap length (made_is whole made spelled written))
 
-  -- each of its pieces is a subtag
+  -- each piece of `joined`, between its hyphens, is a subtag
   has_list : HasList joined
   has_list = to_HasList joined (ap (list_all is_subtag) reads ∙ langtag_subtags c es ps shaped)
 
-  -- no piece of it is the first that is no subtag
+  -- no piece of `joined` is the first that is no subtag
   no_bad_piece : (fault : SubtagFault) (place : ℕ) → IsFirstBadPiece joined fault place → ⊥
   no_bad_piece fault place b =
       let here = b.here (place - 1) (omega (arith, b.first)) in
       let good = has_list (place - 1) (omega (arith, b.first, b.within)) in
       cc
 
-  -- its list is well-formed
+  -- the list of `joined` is well-formed
   formed : IsWellFormed (list_of joined)
   formed = inr (LangTag c es ps, shaped, sym reads)
 
-  -- its only fault is its length
+  -- the only fault that `joined` can have is its length, or memory ran out
   by_kind : (kind : TagFaultKind) (place : ℕ) → IsFault joined kind place
       → IsTooLong (LangTag c es ps) (fault_said 0 (record { kind = kind; place = place }))
   by_kind faults.TooLong place f = inl (omega (arith, as_long, f.0), rw f.1 refl)
@@ -267,6 +269,6 @@ module _ (c : CoreParts) (es : List ExtensionParts) (ps : List (List ℕ)) (shap
   by_kind faults.Unfinished place f = absurd (f.0.bad formed)
   by_kind faults.OutOfMemory place f = inr refl
 
-  -- what an outcome says of its fault
+  -- what an outcome says of a fault of `joined`: that the text is too long, or that memory ran out
   pub made_long : (fault : TagFault) → IsFault joined fault.kind fault.place → IsTooLong (LangTag c es ps) (fault_said 0 fault)
   made_long fault f = by_kind fault.kind fault.place f

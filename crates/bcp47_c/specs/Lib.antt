@@ -1,4 +1,4 @@
--- What the functions of C answer: outcomes in numbers, and what is written to buffers.
+-- What the functions of the C library answer: outcomes in numbers, and what they write to buffers.
 pub mod Numbers
 pub mod Outcomes
 pub mod Records

@@ -1,4 +1,4 @@
--- Whether a language range matches a tag (RFC 4647, 3), and what the call answers that tells it.
+-- Whether a language range matches a tag (RFC 4647, 3), which `bcp47_handle_match` tells, and what that call answers.
 use Rattle.std.specs.Prelude.{ℕ, ◌≡◌, ◌≢◌, ◌⊎◌, ◌↔◌, if◌then◌else◌, Bool, IsTrue, List, [], Option, Some, None}
 use Rattle.lt_tag.specs.Faults.{HasTag}
 use Rattle.lt_tag.specs.Parts.{TagForm}
@@ -71,8 +71,8 @@ range_text (refusals.NotARange fault) = []
 range_text (refusals.ReplacementRepeats variant) = variant
 range_text refusals.OutOfMemory = []
 
--- Why the range is refused is answered, with the number of its text, 1. `alone` is the outcome without that number; the
--- buffer was `before` and is `after`.
+-- The range is refused, and the reason is answered, with the number of its text, 1. `alone` is the outcome without that
+-- number; the buffer was `before` and is `after`.
 pub record IsRangeRefused (R : List EntryParts) (range before after : List ℕ) (o : Outcome) : Type 0 where
   pub refusal : RangeRefusal
   pub owed : IsRangeRefusal R range refusal
@@ -80,8 +80,8 @@ pub record IsRangeRefused (R : List EntryParts) (range before after : List ℕ) 
   pub delivered : IsDelivered (range_said refusal) (range_text refusal) before after alone
   pub told : o ≡ of_text 1 alone
 
--- The text of the range is one, and why the tag of `text` is refused is answered, with the number of its text, 2.
--- `alone` is the outcome without that number; the buffer was `before` and is `after`.
+-- The range is not refused, but the tag of `text` is: the reason is answered, with the number of its text, 2. `alone`
+-- is the outcome without that number; the buffer was `before` and is `after`.
 pub record IsTagRefused (R : List EntryParts) (range text before after : List ℕ) (o : Outcome) : Type 0 where
   pub parts : RangeParts
   pub is_range : IsExtlangRange R range parts
@@ -98,7 +98,7 @@ TellsMatch R scheme range text before after o =
     IsMatchTold R scheme range text before after o
     ⊎ (IsRangeRefused R range before after o ⊎ IsTagRefused R range text before after o)
 
--- the number is that of a scheme, by which is answered whether the range matches the tag of `text`
+-- the number is that of a scheme, and whether the range matches the tag of `text` by it is answered, or why not
 pub record TellsByNumber (R : List EntryParts) (number : ℕ) (range text before after : List ℕ) (o : Outcome)
     : Type 0 where
   pub scheme : Scheme
@@ -111,8 +111,8 @@ pub record IsWrongNumber (number : ℕ) (before after : List ℕ) (o : Outcome) 
   pub none : (scheme : Scheme) → number ≢ scheme_number scheme
   pub delivered : IsDelivered (ended 14) [] before after o
 
--- whether the range matches the tag of `text` by the scheme of a number is answered, or why not; the buffer was
--- `before` and is `after`
+-- The answer of the call: whether the range matches the tag of `text` by the scheme with this number, why one of them
+-- is refused, or that no scheme has the number. The buffer was `before` and is `after`.
 abbrev pub Matches : List EntryParts → ℕ → List ℕ → List ℕ → List ℕ → List ℕ → Outcome → Type 0
 Matches R number range text before after o =
     TellsByNumber R number range text before after o ⊎ IsWrongNumber number before after o

@@ -61,7 +61,7 @@ file_fault file_kinds.TooManyTurns = 24
 file_fault file_kinds.Failed = 25
 file_fault file_kinds.OutOfMemory = 0
 
--- the number of the fault for which a record gives no entry
+-- the number of the fault for which a record can't be read as an entry
 abbrev pub record_fault : RecordFaultKind → ℕ
 record_fault record_kinds.RepeatedField = 26
 record_fault record_kinds.MissingType = 27

@@ -1,4 +1,5 @@
--- The parent of a tag.
+-- The parent of a tag, which `bcp47_write_parent` writes. The parts of a tag are its subtags; a grandfathered tag is
+-- one part, so its parent is empty. A singleton is a part of one byte.
 use Rattle.std.specs.Prelude.{ℕ, ◌≡◌, ◌-◌, ◌+◌, ◌==◌, if◌then◌else◌, List, [], ◌∷◌, take, length, Option, Some, None}
 use Rattle.std.specs.Option.{option_map_or}
 use Rattle.lt_tag.specs.Parts.{TagForm}
@@ -12,7 +13,7 @@ abbrev pub last_long : Option Part → List Part → Option Part
 last_long last [] = last
 last_long last (p ∷ parts) = last_long (if p.length == 1 then last else Some p) parts
 
--- The text of a tag without its last subtag, and without the singletons that then end it (RFC 4647, 3.4); empty where
+-- The text of a tag without its last part, and without the singletons that then end it (RFC 4647, 3.4); empty if
 -- nothing is left.
 abbrev pub parent_of : TagForm → List ℕ
 parent_of t =

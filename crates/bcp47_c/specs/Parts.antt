@@ -1,4 +1,4 @@
--- The parts of a tag in numbers, and what the call answers that writes them.
+-- The parts of a tag in numbers, which `bcp47_write_parts` writes, and what that call answers.
 use Rattle.std.specs.Prelude.{ℕ, ◌≡◌, ◌≢◌, ◌⊎◌, List, map, Option, Some, None}
 use Rattle.lt_tag.specs.Faults.{HasTag}
 use Rattle.lt_tag.specs.Parts.{TagForm}

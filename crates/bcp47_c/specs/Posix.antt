@@ -1,5 +1,5 @@
--- The tag that the name of a POSIX locale stands for, and what the call answers that writes it. The rule is this
--- project's own: no standard has one.
+-- The tag that the name of a POSIX locale stands for, which `bcp47_write_posix` writes, and what that call answers. No
+-- RFC says which tag it is: that is a rule of this project.
 use Rattle.std.specs.Prelude.{ℕ, ◌≡◌, ◌==◌, ◌+◌, ◌||◌, ◌⊎◌, if◌then◌else◌, Bool, List, [], codes, drop, map, take, bytes_eq}
 use Rattle.std.specs.Prelude.{Option, Some, None, position}
 use Rattle.lt_tag.specs.Faults.{HasTag}
@@ -42,14 +42,15 @@ locale name = before 46 (before 64 name)
 abbrev pub hyphen_for : ℕ → ℕ
 hyphen_for b = if b == 95 then 45 else b
 
--- The text of a tag that a locale has: hyphens stand where it has underscores. `C` and `POSIX` stand for American
--- English with the order and the forms of POSIX (UTS 35, 3.6.1: `va-posix`).
+-- The text of the tag of a locale, without codeset and modifier: hyphens stand where it has underscores. `C` and
+-- `POSIX` stand for American English with the order and the forms of POSIX (UTS 35, 3.6.1: `va-posix`).
 abbrev pub tag_text : List ℕ → List ℕ
 tag_text locale =
     if bytes_eq locale (codes "C") || bytes_eq locale (codes "POSIX") then codes "en-US-u-va-posix"
     else map hyphen_for locale
 
--- whether a modifier says nothing of the tag: there is none, or it is of a currency or of an order
+-- whether a modifier says nothing of the tag: it is empty, or `euro`, which names a currency, or `abegede`, which names
+-- an order of letters
 abbrev pub is_silent : List ℕ → Bool
 is_silent text = bytes_eq text (codes "") || (bytes_eq text (codes "euro") || bytes_eq text (codes "abegede"))
 
@@ -67,7 +68,7 @@ modifier_of text =
     else (if bytes_eq text (codes "valencia") then Some modifiers.Valencia
     else (if bytes_eq text (codes "saaho") then Some modifiers.Saaho else None)))))
 
--- the section of the tag that a modifier replaces
+-- the section of the tag that a modifier replaces, if it replaces one
 abbrev pub section_of : Modifier → Option Section
 section_of modifiers.Silent = None
 section_of modifiers.Latin = Some sections.Script
@@ -94,7 +95,8 @@ pub record IsShownAs (text made : List ℕ) : Type 0 where
   pub read : HasTag text tag
   pub shown : made ≡ text_of tag
 
--- `made` is the text of the tag of `text` with the value in place of its section; without a section, of the tag as it is
+-- `made` is the text of the tag of `text` with the value in place of its section; if there is no section, the tag is
+-- not changed
 abbrev pub IsChanged : Option Section → List ℕ → List ℕ → List ℕ → Type 0
 IsChanged None text value made = IsShownAs text made
 IsChanged (Some section) text value made = IsReplacement section text value made
@@ -111,12 +113,13 @@ pub record IsPosixTag (name made : List ℕ) : Type 0 where
   pub named : modifier_of (after 64 name) ≡ Some modifier
   pub changed : IsChanged (section_of modifier) (tag_text (locale name)) (value_of modifier) made
 
--- the modifier is not known: NotATag (1) with BadByte (3), of its `@`, at 0
+-- the modifier is not known: NotATag (1) with BadByte (3) at 0, since a modifier has no place in the tag
 pub record HasNoModifier (name : List ℕ) (said : Said) : Type 0 where
   pub none : modifier_of (after 64 name) ≡ None
   pub told : said ≡ record { status = 1; detail = 3; place = 0 }
 
--- the locale is no tag, or what the modifier makes of it is too long; places are those of its subtags
+-- the modifier is known, but the locale is no tag, or the modifier can't change its tag: it has no sections, or becomes
+-- too long; places are those of the locale's subtags
 pub record HasNoTag (name : List ℕ) (said : Said) : Type 0 where
   pub modifier : Modifier
   pub named : modifier_of (after 64 name) ≡ Some modifier
@@ -134,7 +137,7 @@ pub record IsPosixWritten (name before after : List ℕ) (o : Outcome) : Type 0 
   pub is_made : IsPosixTag name made
   pub delivered : IsDelivered (ended 0) made before after o
 
--- why there is none is answered; the buffer was `before` and is `after`
+-- why the name stands for no tag is answered, and no text is written; the buffer was `before` and is `after`
 pub record IsPosixRefused (name before after : List ℕ) (o : Outcome) : Type 0 where
   pub said : Said
   pub owed : IsNoPosixTag name said

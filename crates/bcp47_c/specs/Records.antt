@@ -9,8 +9,8 @@ use Rattle.bcp47_c.specs.Outcomes.{AreDelivered, ended, IsDelivered}
 use Rattle.bcp47_c.specs.declared.outcomes.Outcome.{Outcome}
 use Rattle.bcp47_c.specs.declared.records.FieldLengths.{FieldLengths}
 
--- a registry, as its entries, and what is kept with it: records, and the lists of subtags of each tag that may be
--- served
+-- a registry, as its entries, and what is kept with it: records, and for each tag of the list that is kept the subtags
+-- of its extlang form
 pub record Kept : Type 0 where
   pub entries : List EntryParts
   pub records : List (List Field)
@@ -42,15 +42,15 @@ lengths_of f = record { name = length f.0; body = length f.1 }
 abbrev pub field_text : Field → List ℕ
 field_text f = f.0 ++ 0 ∷ (f.1 ++ 0 ∷ [])
 
--- the fields are answered; the room for their lengths was `room` and is `filled`, and the buffer was `before` and is
--- `after`
+-- the lengths and the texts of the fields are written, and their number is answered; or it is answered that they do not
+-- fit. The room for the lengths was `room` and is `filled`, and the buffer was `before` and is `after`.
 abbrev pub AreFieldsWritten : List Field → List FieldLengths → List FieldLengths → List ℕ → List ℕ → Outcome → Type 0
 AreFieldsWritten fields room filled before after o =
     AreDelivered (map lengths_of fields) (flat_map field_text fields) room filled before after o
 
--- the fields of the record with this number, counted from 1, are answered, or that memory ran out (4); a record that
--- is not there has no fields. In order: the records, the number, the room before and after, the buffer before and
--- after, the outcome
+-- The fields of the record with this number, counted from 1, are answered, or that memory ran out (4). A record that is
+-- not there has no fields. In order: the records, the number, the room before and after, the buffer before and after,
+-- the outcome.
 abbrev pub TellsRecord : List (List Field) → ℕ → List FieldLengths → List FieldLengths → List ℕ → List ℕ → Outcome → Type 0
 TellsRecord records number room filled before after o =
     AreFieldsWritten (fields_of records number) room filled before after o

@@ -1,4 +1,5 @@
--- A tag with one of its sections replaced or taken away (RFC 5646, 2.1), and what the call answers that writes it.
+-- A tag with one of its sections replaced or taken away (RFC 5646, 2.1), which `bcp47_write_with` writes, and what that
+-- call answers. The new section is given as a text, the value.
 use Rattle.std.specs.Prelude.{ℕ, ◌≡◌, ◌≢◌, ◌<◌, ◌≤◌, ◌+◌, ◌-◌, ◌⊎◌, Bool, true, false, not, List, [], ◌∷◌, ◌++◌, codes, drop, length}
 use Rattle.std.specs.Prelude.{Option, Some, None, IsSome, position}
 use Rattle.lt_tag.specs.Faults.{HasTag, IsFault}
@@ -92,13 +93,13 @@ form langtag = LangTag langtag.core langtag.extensions.items langtag.private.ite
 
 -- ---- the value
 
--- The text of a value behind a language, which is any of two letters, so that no value is too long that fits a tag. No
--- value stands for no section.
+-- A value behind the language `de`: `de-hk` for `hk`, and `de` for an empty value, which stands for no section. No
+-- language is shorter, so a value that is too long behind `de` is too long for every tag.
 abbrev pub behind_language : List ℕ → List ℕ
 behind_language [] = codes "de"
 behind_language (b ∷ bs) = codes "de-" ++ b ∷ bs
 
--- the text by which a value is read: a language is a tag, and another section is what follows the language of one
+-- the text by which a value is read: for a language the value itself, for any other section the value behind `de`
 abbrev pub bearing : Section → List ℕ → List ℕ
 bearing sections.Language value = value
 bearing section value = behind_language value
@@ -108,7 +109,8 @@ abbrev pub before_value : Section → ℕ
 before_value sections.Language = 0
 before_value section = 1
 
--- which subtag of a value, counted from 0, is in another section; the value is read as the tag
+-- the place, counted from 0, of the first subtag of a value that is not in the section, if there is one; the text by
+-- which the value is read is read as the tag
 abbrev pub foreign : Section → TagForm → Option ℕ
 foreign section tag =
     position (λ (part : Part). not (has section part.kind)) (drop (before_value section) (parts_of tag))
@@ -118,7 +120,8 @@ pub record ReadsLangtag (text : List ℕ) (tag : TagForm) : Type 0 where
   pub read : HasTag text tag
   pub langtag : IsSome (core_of tag)
 
--- the value has the form of a section, or is empty; it is read as the tag, which has only that section of it
+-- the value has the form of a section, or is empty: the text by which it is read is read as the tag, in which no part
+-- of the value is in another section
 pub record ReadsValue (section : Section) (value : List ℕ) (tag : TagForm) : Type 0 where
   pub langtag : ReadsLangtag (bearing section value) tag
   pub whole : foreign section tag ≡ None
@@ -137,8 +140,8 @@ no_memory = ended 4
 abbrev pub no_language : Said
 no_language = record { status = 1; detail = 5; place = 1 }
 
--- what an outcome says of a fault of a text, if so many subtags at its front are not counted: NotATag (1) or
--- OutOfMemory (4)
+-- what an outcome says of a fault of a text, if its first `skipped` subtags are not counted: NotATag (1) or OutOfMemory
+-- (4)
 abbrev pub fault_said : ℕ → TagFault → Said
 fault_said skipped fault = said_of skipped fault.kind fault.place
   where
@@ -146,20 +149,20 @@ fault_said skipped fault = said_of skipped fault.kind fault.place
     said_of skipped faults.OutOfMemory place = ended 4
     said_of skipped kind place = record { status = 1; detail = tag_fault kind; place = place - skipped }
 
--- the text has a fault, which is said
+-- the text is no tag, and `said` is what an outcome says of its fault
 pub record HasFaultSaid (skipped : ℕ) (text : List ℕ) (said : Said) : Type 0 where
   pub fault : TagFault
   pub owed : IsFault text fault.kind fault.place
   pub told : said ≡ fault_said skipped fault
 
--- the text is read as a tag of private use, or a grandfathered one
+-- the text is read as a tag of private use, or a grandfathered one, and `said` is what an outcome says of that
 pub record HasNoLanguage (text : List ℕ) (said : Said) : Type 0 where
   pub tag : TagForm
   pub read : HasTag text tag
   pub none : core_of tag ≡ None
   pub told : said ≡ no_language
 
--- why the text is no langtag; so many subtags at its front are not counted
+-- why the text is no langtag, as an outcome says it; the first `skipped` subtags of the text are not counted
 abbrev pub IsNoLangtag : ℕ → List ℕ → Said → Type 0
 IsNoLangtag skipped text said = HasFaultSaid skipped text said ⊎ HasNoLanguage text said
 
@@ -171,7 +174,8 @@ pub record HasForeign (section : Section) (value : List ℕ) (said : Said) : Typ
   pub found : foreign section tag ≡ Some index
   pub told : said ≡ record { status = 1; detail = 6; place = index + 1 }
 
--- why the value has not the form of a section
+-- why the value does not have the form of a section: its bearing text is no langtag, or it has a part of another
+-- section
 abbrev pub IsNoValue : Section → List ℕ → Said → Type 0
 IsNoValue section value said =
     IsNoLangtag (before_value section) (bearing section value) said ⊎ HasForeign section value said
@@ -184,7 +188,7 @@ IsTooLong tag said =
 -- ---- a tag with a section replaced
 
 -- The text is read as a langtag, the value as that of a section, and `made` is the text of the tag with that value in
--- place of its own section. No value takes the section away.
+-- place of its own section. An empty value takes the section away.
 pub record IsReplacement (section : Section) (text value made : List ℕ) : Type 0 where
   pub tag : TagForm
   pub langtag : ReadsLangtag text tag
@@ -193,7 +197,7 @@ pub record IsReplacement (section : Section) (text value made : List ℕ) : Type
   pub written : made ≡ text_of (replaced section tag other)
   pub short : length made ≤ longest_text
 
--- the text is read as a langtag, and the value as that of a section, but what they make is too long
+-- the text is read as a langtag, and the value as that of a section, but what they make is too long, or memory ran out
 pub record MakesTooLong (section : Section) (text value : List ℕ) (said : Said) : Type 0 where
   pub tag : TagForm
   pub langtag : ReadsLangtag text tag
@@ -201,7 +205,7 @@ pub record MakesTooLong (section : Section) (text value : List ℕ) (said : Said
   pub is_value : ReadsValue section value other
   pub long : IsTooLong (replaced section tag other) said
 
--- the text is read as a langtag, but the value has not the form of the section
+-- the text is read as a langtag, but the value does not have the form of the section
 pub record HasNoValue (section : Section) (text value : List ℕ) (said : Said) : Type 0 where
   pub tag : TagForm
   pub langtag : ReadsLangtag text tag

@@ -1,5 +1,6 @@
--- The list of tags that a handle keeps: which tag of it is served to the reader of an Accept-Language header, and
--- which tags the header accepts (RFC 9110, 12.5.4). And what the calls answer that tell this.
+-- The list of tags that a handle keeps: which tag of it is served for an Accept-Language header, and which tags the
+-- header accepts (RFC 9110, 12.5.4). And what `bcp47_handle_list`, `bcp47_handle_best` and `bcp47_handle_filter`
+-- answer. A tag's list is the subtags of its extlang form.
 use Rattle.std.specs.Prelude.{ℕ, ◌≡◌, ◌⊎◌, List, [], ◌∷◌, Option, Some, None, drop, length, min, take}
 use Rattle.lt_registry.specs.Parts.{EntryParts}
 use Rattle.lt_range.specs.Asked.{Asks, IsHeaderRefusal}
@@ -19,13 +20,14 @@ use Rattle.bcp47_c.specs.declared.outcomes.Said.{Said}
 
 -- ---- the list of tags
 
--- the texts of these lengths that stand one after another in a text; the last of them are shorter where it ends before
+-- the texts with these lengths that stand one after another in a text; the last of them are shorter if it ends too
+-- early
 abbrev pub texts_of : List ℕ → List ℕ → List (List ℕ)
 texts_of [] text = []
 texts_of (n ∷ ns) text = take n text ∷ texts_of ns (drop n text)
 
--- What is answered where a tag is refused: what is said of the refusal, and the number of the tag, unless memory ran out.
--- C has the number as an `int`, whose greatest stands for all that are greater.
+-- What is answered if a tag is refused: what is said of the refusal, and the number of the tag, unless memory ran out.
+-- C has the number as an `int`; the greatest `int` stands for all greater numbers.
 abbrev pub tag_refused : AvailableRefusal → Outcome
 tag_refused refused = of_text (min refused.place 2147483647) (outcome (refusal_said refused.refusal) 0)
 
@@ -88,12 +90,12 @@ pub record IsHeaderRefused (R : List EntryParts) (header : List ℕ) (o : Outcom
   pub owed : IsHeaderRefusal R header refusal
   pub told : o ≡ outcome (header_said refusal) 0
 
--- of the tags with these lists the one to serve is answered, or why the header is refused
+-- which of the tags with these lists is served for the header is answered, or why the header is refused
 abbrev pub Serves : List EntryParts → List (List (List ℕ)) → List ℕ → Outcome → Type 0
 Serves R lists header o = IsServed R lists header o ⊎ IsHeaderRefused R header o
 
--- of the tags with these lists the places of those that the header accepts are answered; or why the header is refused,
--- and the room stays as it was
+-- The places of those tags that the header accepts, among the tags with these lists, are answered; or why the header is
+-- refused. The room for the places was `room` and is `filled`, which is the same if the header is refused.
 abbrev pub Accepts : List EntryParts → List (List (List ℕ)) → List ℕ → List ℕ → List ℕ → Outcome → Type 0
 Accepts R lists header room filled o =
     AreServed R lists header room filled o

@@ -13,7 +13,7 @@ abbrev pub IsToldBy : StepNumbers → Option Step → Type 0
 IsToldBy told (Some step) = told ≡ in_numbers step
 IsToldBy told None = (step : Step) → told ≢ in_numbers step
 
--- there are no more numbers, or the next are no step
+-- there are no more numbers, or the next numbers are no step
 abbrev pub TellsNoMore : List StepNumbers → Type 0
 TellsNoMore [] = Unit {0}
 TellsNoMore (told ∷ rest) = IsToldBy told None

@@ -10,7 +10,7 @@ use Rattle.lt_canon.specs.Texts.{ReadsAs}
 use Rattle.lt_canon.specs.declared.refusals.TextRefusal.{TextRefusal}
 use Rattle.lt_canon.specs.declared.refusals.TextRefusal.TheVariants as refusals
 
--- why the text is no tag; OutOfMemory may be answered of any text
+-- why the text is no tag; OutOfMemory may be answered for any text
 abbrev pub IsReadingRefusal : List ℕ → TextRefusal → Type 0
 IsReadingRefusal text (refusals.NotATag fault) = HasFault text fault.kind fault.place
 IsReadingRefusal text (refusals.Invalid fault) = ⊥

@@ -1,4 +1,5 @@
--- What is answered of a trace, steps in numbers from one tag to another, that is to be verified.
+-- What `bcp47_handle_verify` answers. A trace is a list of steps, given in numbers, that are to lead from one tag to
+-- another; `told` are those numbers.
 use Rattle.std.specs.Prelude.{ℕ, ◌≡◌, ◌+◌, ◌⊎◌, List, [], ◌∷◌, ◌++◌, length, map, None}
 use Rattle.lt_tag.specs.Faults.{HasFault, HasTag}
 use Rattle.lt_tag.specs.Parts.{TagForm}
@@ -55,15 +56,15 @@ pub record TellsOtherEnd (R : List EntryParts) (t : TagForm) (told : List StepNu
   pub elsewhere : EndsElsewhere R t steps end
 
 -- what is wrong with a trace whose steps are the numbers `told`, from the tag `t` to `end`; OutOfMemory may be answered
--- of any
+-- for any trace
 abbrev pub IsToldFault : List EntryParts → TagForm → List StepNumbers → TagForm → TraceFault → Type 0
 IsToldFault R t told end (faults.Invalid fault) = IsFirstFault R t fault.kind fault.place
 IsToldFault R t told end (faults.NoSuchStep n) = IsValid R t × HasMisstep R t told n
 IsToldFault R t told end faults.WrongEnd = IsValid R t × TellsOtherEnd R t told end
 IsToldFault R t told end faults.OutOfMemory = Unit {0}
 
--- The fault of a trace whose step number `n` is no step, by the fault of the steps before it. If these lead to another
--- tag than the last, the fault is that there is no step `n`.
+-- The fault of a trace whose step number `n` is no step, by the fault of the steps before it: that fault, unless it
+-- says only that they lead to another tag than the last. Then the fault is that there is no step `n`.
 abbrev pub of_front : TraceFault → ℕ → TraceFault
 of_front (faults.Invalid fault) n = faults.Invalid fault
 of_front (faults.NoSuchStep m) n = faults.NoSuchStep m
@@ -72,7 +73,7 @@ of_front faults.OutOfMemory n = faults.OutOfMemory
 
 -- ---- texts and outcomes
 
--- why one of two texts is no tag, the first before the second; OutOfMemory may be answered of any two texts
+-- why one of two texts is no tag, the first before the second; OutOfMemory may be answered for any two texts
 abbrev pub IsPairReadingRefusal : List ℕ → List ℕ → TextRefusal → Type 0
 IsPairReadingRefusal first second (refusals.NotATag fault) =
     HasFault first fault.kind fault.place ⊎ ReadsAs first (λ tag. HasFault second fault.kind fault.place)

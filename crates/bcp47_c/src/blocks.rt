@@ -1,5 +1,5 @@
-//! A value on the heap, as the parts of its box, so that a handle of C can hold them: a handle is let go without a drop.
-//! `Block::of` gives a box up, and `into_box` makes it again.
+//! A value on the heap, as the parts of its box, so that a handle of C can hold them: nothing is dropped when a handle
+//! goes away. `Block::of` takes a box apart, and `into_box` makes it again.
 ghost use Rattle.std.specs.Prelude.{◌≡◌};
 ghost use Rattle.std.specs.Box.Ownership.{box_owns};
 
@@ -19,7 +19,7 @@ impl<T, A: Allocator> Model for Block<T, A> {
 }
 
 impl<T, A: Allocator> Block<T, A> {
-    /// The place and the allocator of a box, which is given up.
+    /// The place and the allocator of a box. The box is gone, and its value is freed only if `into_box` makes it again.
     pub fn of(boxed: Box<T, A>) -> Block<T, A>
     where
         T: Drop,

@@ -1,4 +1,4 @@
-//! Why bytes are no registry, and a registry is no upgrade.
+//! What is answered if bytes are no registry, or a registry is no upgrade of another.
 ghost use Rattle.std.specs.Prelude.{◌≡◌};
 ghost use Rattle.bcp47_c.specs.Ends as spec;
 
@@ -34,8 +34,8 @@ fn error_said(error: RegistryError) -> Said
     }
 }
 
-/// Answers an error of a registry, and writes the line that the program prints for it; where there is no memory for the
-/// line, answers and writes `OutOfMemory`.
+/// Answers an error of a registry, and writes it to the buffer, for example as `jar BadLine line 3`. If there is no
+/// memory for that text, `OutOfMemory` is answered and written instead.
 pub(crate) fn refuse_registry(alloc: Global, error: RegistryError, buffer: &mut [u8]) -> Outcome
     ensures { spec.IsRefusedRegistry error buffer.old buffer.new result }
 {

@@ -1,5 +1,5 @@
-//! What C holds. A handle has no `Drop`, and its fields are private to this file: what could lose a registry stands here
-//! alone.
+//! The handles that C holds. A handle has no `Drop`, and its fields are private to this file: only code of this file
+//! could lose a registry.
 ghost use Rattle.std.specs.Prelude.{◌≡◌, Some, None};
 ghost use Rattle.bcp47_c.specs.Handles.{Held, held_owns, held_coded};
 ghost use Rattle.bcp47_c.specs.Records.{Kept};
@@ -11,8 +11,9 @@ use std::marker::Model;
 use std::mem::replace;
 use std::ptr::null_mut;
 
-/// What C holds: a registry, or nothing, as bytes do that are all zero. A contract sees its entries, and what is kept with
-/// them. `bcp47_handle_open` and `bcp47_handle_share` open it, `bcp47_handle_close` closes it.
+/// A handle of C. It holds a registry, or nothing; bytes that are all zero are a handle that holds nothing. A contract
+/// sees what it holds as `held`: the entries of the registry, and what is kept with them. `bcp47_handle_open` and
+/// `bcp47_handle_share` open a handle, `bcp47_handle_close` closes it.
 #[repr(C)]
 pub struct Handle {
     place: *mut u8,
@@ -25,7 +26,7 @@ impl Model for Handle {
 }
 
 impl Handle {
-    /// A handle that holds nothing, whatever its place, which is never read then. Its ghost field `held` says so.
+    /// A handle that holds nothing, as its ghost field `held` says. `place` may be any pointer: it is never read.
     fn empty(place: *mut u8, alloc: Global) -> Handle
         ensures { result.held ≡ None }
     {
@@ -57,8 +58,8 @@ impl Handle {
     }
 }
 
-/// Takes the registry that a handle holds out of it; it must hold one. The handle holds nothing then; `alloc` is the
-/// allocator that it has meanwhile.
+/// Takes the registry that a handle holds out of it; it must hold one. The handle holds nothing then, and has `alloc`
+/// as its allocator.
 pub(crate) fn take(alloc: Global, handle: &mut Handle) -> Box<Opened>
     ghost registry: { Kept }
     requires { handle.old.held ≡ Some registry }

@@ -4,9 +4,10 @@
 //! A call on a [`Handle`] needs it open, which its caller must see to: nothing checks C. A text that does not fit its
 //! buffer is not written; the status is then 5, and the length is the one that is needed.
 //!
-//! In clauses `registry` is what the handle holds, which no argument says: `requires` says that it is open, and
-//! `kept` that it holds the same afterwards. A call takes that out of the handle and puts it back. A buffer is seen
-//! before and after a call (`buffer.old`, `buffer.new`), since what follows the text stays in it.
+//! In clauses `registry` is what the handle holds: by `requires` the handle is open, and by `kept` it holds the same
+//! after the call, which takes the registry out of the handle and puts it back. A text is written to the front of
+//! `buffer`; the clauses see the buffer before and after the call (`buffer.old`, `buffer.new`), since the bytes behind
+//! the text stay as they were.
 #![tactic(auto)]
 
 ghost use Rattle.std.specs.Prelude.{◌≡◌, ◌≤◌, ◌<◌, ◌≢◌, [], Some, None, length, slice_index_or};
@@ -64,9 +65,10 @@ use texts::classify;
 
 /// Opens the registry whose text the bytes are (RFC 5646, 3.1), in a handle that holds nothing: status 0.
 ///
-/// Status 7, 8 or 9 says that the format, a record or the check refuses it, with the number of the fault and
-/// its line or record, and 4 that memory ran out. The handle then still holds nothing, and the line that the
-/// program prints is written to the buffer.
+/// Status 7 says that the bytes are not in the format of a registry, 8 that a record can't be read as an entry, and 9
+/// that the entries do not pass the check, with the number of the fault and its line or record. Status 4 says that
+/// memory ran out. The handle then still holds nothing, and what is wrong is written to the buffer, for example
+/// `jar BadLine line 3`.
 #[unsafe(no_mangle)]
 pub extern "C" fn bcp47_handle_open(
     alloc: Global,
@@ -87,7 +89,7 @@ pub extern "C" fn bcp47_handle_open(
 }
 
 /// Lets another handle, `other`, which holds nothing, hold the registry of `handle` too, with the records and the list of tags
-/// that are kept with it: status 0, or 4 where memory runs out.
+/// that are kept with it: status 0. Status 4 says that memory ran out; `other` still holds nothing then.
 #[unsafe(no_mangle)]
 pub extern "C" fn bcp47_handle_share(alloc: Global, handle: &mut Handle, other: &mut Handle) -> u8
     ghost registry: { Kept }
@@ -109,9 +111,9 @@ pub extern "C" fn bcp47_handle_share(alloc: Global, handle: &mut Handle, other: 
 }
 
 /// Keeps the records of bytes with a registry (RFC 5646, 3.1.1), in place of those that were kept: status 0. The
-/// registry's entries are made of these records where it was opened from the same bytes, which is not checked.
+/// bytes are meant to be those from which the registry was opened, but this is not checked.
 ///
-/// Status 7 says that the bytes are not in the format, and 4 that memory ran out. What was held is held then.
+/// Status 7 says that the bytes are not in the format, and 4 that memory ran out. The handle then keeps what it had.
 #[unsafe(no_mangle)]
 pub extern "C" fn bcp47_handle_keep(alloc: Global, handle: &mut Handle, bytes: &[u8]) -> u8
     ghost registry: { Kept }
@@ -124,7 +126,7 @@ pub extern "C" fn bcp47_handle_keep(alloc: Global, handle: &mut Handle, bytes: &
     status
 }
 
-/// Closes a registry: the handle holds nothing then. What it held is freed where no other handle holds it.
+/// Closes a registry: the handle holds nothing then. What it held is freed if no other handle holds it too.
 #[unsafe(no_mangle)]
 pub extern "C" fn bcp47_handle_close(alloc: Global, handle: &mut Handle)
     ghost registry: { Kept }
@@ -148,7 +150,7 @@ pub extern "C" fn bcp47_handle_entries(alloc: Global, handle: &mut Handle) -> us
     count
 }
 
-/// Writes the SHA-256 digest of bytes (FIPS 180-4), which has 32 bytes.
+/// Writes the SHA-256 digest of bytes (FIPS 180-4), which has 32 bytes: status 0, or 5 if the buffer is shorter.
 #[unsafe(no_mangle)]
 pub extern "C" fn bcp47_digest(bytes: &[u8], buffer: &mut [u8]) -> Outcome
     ensures { IsDelivered (ended 0) (sha256 bytes.now) buffer.old buffer.new result }
@@ -159,8 +161,9 @@ pub extern "C" fn bcp47_digest(bytes: &[u8], buffer: &mut [u8]) -> Outcome
 
 /// Writes the canonical text of the tag that a text is read as (RFC 5646, 4.5): status 0, and `yue` for `zh-yue`.
 ///
-/// Status 1 says that the text is no tag, and 2 that the tag is not valid, both with the number of the fault and its place.
-/// Status 3 says that steps can repeat a variant, which is written, and 4 that memory ran out.
+/// Status 1 says that the text is no tag, and 2 that the tag is not valid, both with the number of the fault and its
+/// place. Status 3 says that steps can repeat a variant; the variant is written to the buffer. Status 4 says that
+/// memory ran out.
 #[unsafe(no_mangle)]
 pub extern "C" fn bcp47_handle_canonical(
     alloc: Global,
@@ -201,7 +204,7 @@ pub extern "C" fn bcp47_handle_extlang(
 
 /// Writes the text, in conventional case (RFC 5646, 2.1.1), of the tag that a text is read as, and answers its
 /// class as the detail: 1 for a langtag, 2 for private use, 3 for a grandfathered tag (RFC 5646, 2.1). Status 1
-/// says that the text is no tag, 4 that memory ran out.
+/// says that the text is no tag, with the number of the fault and its place, and 4 that memory ran out.
 #[unsafe(no_mangle)]
 pub extern "C" fn bcp47_handle_classify(
     alloc: Global,
@@ -273,8 +276,8 @@ pub extern "C" fn bcp47_handle_show(
     outcome
 }
 
-/// How many steps the explanation has of the tag that a text is read as: status 0, and the number as the place. The
-/// other statuses are those of `bcp47_handle_canonical`. The buffer is for the variant that is written with status 3.
+/// Counts the steps in the explanation of the tag that a text is read as: status 0, and their number as the place. The
+/// other statuses are those of `bcp47_handle_canonical`. Only the variant of status 3 is written to the buffer.
 #[unsafe(no_mangle)]
 pub extern "C" fn bcp47_handle_count_steps(
     alloc: Global,
@@ -293,11 +296,13 @@ pub extern "C" fn bcp47_handle_count_steps(
     outcome
 }
 
-/// Writes the fields of the record of a number, counted from 1 with the header, among the records that are kept (RFC 5646, 3.1.1),
-/// and answers how many there are as the place: status 0. Of each the name and the body are written, with a zero after each,
-/// and their lengths. A record that is not there has no fields.
+/// Writes the fields of one of the records that are kept (RFC 5646, 3.1.1), and answers how many fields there are as
+/// the place: status 0. `number` is that of the record, counted from 1 with the header. The name and the body of each
+/// field are written to the buffer, with a zero after each, and their lengths to `room`. A record that is not there has
+/// no fields.
 ///
-/// Where the lengths or the texts do not fit, neither is written, and the status is 5; status 4 says that memory ran out.
+/// If the lengths do not fit the room, or the texts the buffer, nothing is written, and the status is 5. Status 4 says
+/// that memory ran out.
 #[unsafe(no_mangle)]
 pub extern "C" fn bcp47_handle_record(
     alloc: Global,
@@ -320,9 +325,10 @@ pub extern "C" fn bcp47_handle_record(
 /// Whether steps lead, one after another, from the tag that `text` is read as, which is valid, to the tag that `last` is read
 /// as, which is then equivalent to it (RFC 5646, 4.5): status 0.
 ///
-/// Status 1 says that one of the texts is no tag, and 2 that the tag of `text` is not valid. Status 11 says that a step,
-/// whose number from 1 is the place, does not lead on, and 12 that the steps lead to another tag. Status 4 says that memory
-/// ran out.
+/// Status 1 says that one of the texts is no tag, `text` or else `last`, and 2 that the tag of `text` is not valid,
+/// both with the number of the fault and its place. Status 11 says that a step does not lead on; the place is its
+/// number, counted from 1. Status 12 says that the steps lead to another tag than that of `last`, and 4 that memory ran
+/// out.
 #[unsafe(no_mangle)]
 pub extern "C" fn bcp47_handle_verify(
     alloc: Global,
@@ -357,11 +363,11 @@ pub extern "C" fn bcp47_handle_validate(alloc: Global, handle: &mut Handle, text
     outcome
 }
 
-/// Whether the tags that two texts are read as are equivalent (RFC 5646, 4.5): status 0, or 6 where they are not.
+/// Whether the tags that two texts are read as are equivalent (RFC 5646, 4.5): status 0, or 6 if they are not.
 ///
-/// Status 1 says that a text is no tag, the first or else the second. Status 2 and 3 say that a tag is refused as by
-/// `bcp47_handle_canonical`, the first or else the second, and 4 that memory ran out. The buffer is for the variant that is
-/// written with status 3.
+/// Status 1 says that a text is no tag, the first or else the second. Status 2 or 3 says that a tag is refused as by
+/// `bcp47_handle_canonical`, the first or else the second, and 4 that memory ran out. Only the variant of status 3 is
+/// written to the buffer.
 #[unsafe(no_mangle)]
 pub extern "C" fn bcp47_handle_equal(
     alloc: Global,
@@ -382,15 +388,17 @@ pub extern "C" fn bcp47_handle_equal(
 }
 
 /// Whether a language range matches a tag (RFC 4647), by the scheme of a number: 1 for basic filtering (3.3.1), 2 for
-/// extended filtering (3.3.2), 3 for lookup (3.4), where the range, cut from its end, is the tag. Status 0, or 6 where it
-/// does not. Both are matched by their extlang forms (RFC 5646, 4.5), so that `zh` and `zh-yue` match `yue-HK`; of a range that
-/// is no valid tag, for example `yue-*`, the first subtag is, where it alone is a valid tag.
+/// extended filtering (3.3.2), 3 for lookup (3.4), by which a range matches the tag that it is or becomes when it is
+/// cut from its end. The status is 0 if the range matches, and 6 if not. Both are matched by their extlang forms (RFC
+/// 5646, 4.5), so that `zh` and `zh-yue` match `yue-HK`. A range that is no valid tag has no such form; its first
+/// subtag is matched by its own extlang form, if it has one: `yue-*` matches `zh-yue-HK`.
 ///
-/// Where one of the two is refused, the outcome's `text` says which, 1 for the range and 2 for the tag:
+/// If one of the two is refused, the outcome's `text` says which, 1 for the range and 2 for the tag:
 ///
-/// - Status 1 with 1: the range is neither a valid tag nor a range (RFC 4647, 2.2), with the number of the fault of its
-///   leftmost piece at fault. Status 3 with 1: steps can repeat a variant of it, which is written.
-/// - Status 1, 2 or 3 with 2: else the tag is refused as by `bcp47_handle_canonical`.
+/// - Status 1 with 1: the range is neither a valid tag nor a range (RFC 4647, 2.2); the detail is the number of the
+///   fault of the leftmost piece that has one. Status 3 with 1: steps can repeat a variant of the range; the variant
+///   is written to the buffer.
+/// - Status 1, 2 or 3 with 2: the range passes, but the tag is refused as by `bcp47_handle_canonical`.
 /// - Status 4: memory ran out. Status 14: the number is that of no scheme.
 #[unsafe(no_mangle)]
 pub extern "C" fn bcp47_handle_match(
@@ -415,8 +423,9 @@ pub extern "C" fn bcp47_handle_match(
 /// Keeps a list of tags with a registry, in place of the one that was kept: status 0. The tags are texts of these lengths,
 /// which stand one after another in `texts`.
 ///
-/// Status 1, 2 or 3 says of the first tag that is refused what `bcp47_handle_canonical` says of it, with its number from 1 as
-/// the outcome's `text`; nothing is written. Status 4 says that memory ran out. What was held is held then.
+/// If one of the tags is refused, the status, the detail and the place are those of `bcp47_handle_canonical` for the
+/// first such tag, and the outcome's `text` is its number, counted from 1; no variant is written. Status 4 says that
+/// memory ran out. The handle then keeps the list that it had.
 #[unsafe(no_mangle)]
 pub extern "C" fn bcp47_handle_list(
     alloc: Global,
@@ -434,12 +443,13 @@ pub extern "C" fn bcp47_handle_list(
     outcome
 }
 
-/// Which tag of the list that is kept is served to the reader of an Accept-Language header (RFC 9110, 12.5.4): status 0, with
-/// 1 as the detail and the place of the tag, counted from 0. If no range serves a tag, the detail is 0. Ranges and tags are
-/// matched by their extlang forms (RFC 5646, 4.5).
+/// Which tag of the list that is kept is served for an Accept-Language header (RFC 9110, 12.5.4): status 0, with 1 as
+/// the detail and the place of the tag in the list, counted from 0. If no range serves a tag, the detail is 0. Ranges
+/// and tags are matched by their extlang forms (RFC 5646, 4.5).
 ///
-/// Status 18 says that the text is no header, with the number of the fault and of the list element from 1. Status 3 says that
-/// steps can repeat a variant of one of its ranges, and 4 that memory ran out.
+/// Status 18 says that the text is no header, with the number of the fault, and as the place the number of the list
+/// element, counted from 1. Status 3 says that steps can repeat a variant of one of the ranges, and 4 that memory ran
+/// out.
 #[unsafe(no_mangle)]
 pub extern "C" fn bcp47_handle_best(alloc: Global, handle: &mut Handle, header: &[u8]) -> Outcome
     ghost registry: { Kept }
@@ -453,9 +463,10 @@ pub extern "C" fn bcp47_handle_best(alloc: Global, handle: &mut Handle, header: 
     outcome
 }
 
-/// The places, counted from 0, of those tags of the list that is kept which an Accept-Language header accepts, from the
-/// greatest weight to the least (RFC 9110, 12.5.4). The status is 0, and the place is how many there are. Where they do not
-/// fit the room, none is written, and the status is 5. The other statuses are those of `bcp47_handle_best`.
+/// Writes the places, counted from 0, of those tags of the kept list that an Accept-Language header accepts to the
+/// front of `places`, from the greatest weight to the least (RFC 9110, 12.5.4): status 0, and as the outcome's place
+/// how many there are. If they do not fit, none is written, and the status is 5 with the same number. The other
+/// statuses are those of `bcp47_handle_best`.
 #[unsafe(no_mangle)]
 pub extern "C" fn bcp47_handle_filter(
     alloc: Global,
@@ -474,8 +485,8 @@ pub extern "C" fn bcp47_handle_filter(
     outcome
 }
 
-/// Tells whether the registry that the handle `newer` holds upgrades an older one. The handle must hold a registry, and holds
-/// it afterwards too.
+/// Tells whether the registry that the handle `newer` holds upgrades an older one: the outcome is that of
+/// `bcp47_handle_upgrade_check`. The handle must hold a registry, and holds it afterwards too.
 fn check_newer(alloc: Global, older: &Opened, newer: &mut Handle) -> Outcome
     ghost registry: { Kept }
     requires { newer.old.held ≡ Some registry }
@@ -488,8 +499,8 @@ fn check_newer(alloc: Global, older: &Opened, newer: &mut Handle) -> Outcome
     outcome
 }
 
-/// Whether a newer registry upgrades an older one: status 0, or 10 with the number of the condition that is not
-/// met and the record at fault, or 4 where memory runs out.
+/// Whether a newer registry upgrades an older one: status 0. Status 10 says that it does not, with the number of the
+/// condition that is not met and that of the record at fault, and 4 that memory ran out.
 #[unsafe(no_mangle)]
 pub extern "C" fn bcp47_handle_upgrade_check(
     alloc: Global,
@@ -538,8 +549,8 @@ pub extern "C" fn bcp47_write_fault_name(fault: u8, buffer: &mut [u8]) -> Outcom
     deliver(ended(DONE), name.as_bytes(), buffer)
 }
 
-/// Writes the name of a kind of step, 1 to 14, as the program prints it: `Extlang` for 1 (`named`, of each kind `k`
-/// that has the number, which is one at most); nothing for another number (`none`).
+/// Writes the name of a kind of step, 1 to 14, as the program prints it: `Extlang` for 1 (`named`, where `k` is the
+/// kind with this number); nothing for a number that no kind has (`none`).
 #[unsafe(no_mangle)]
 pub extern "C" fn bcp47_write_kind_name(kind: u8, buffer: &mut [u8]) -> Outcome
     ensures named { (k : StepKind) → kind ≡ number_of.step_kind k → IsDelivered (ended 0) (name_of k) buffer.old buffer.new result }

@@ -30,8 +30,8 @@ pub(crate) fn scheme_of(number: u32) -> Option<Scheme>
     })
 }
 
-/// Whether a range matches a tag by a scheme, both by their subtags; by lookup, whether the tag is the range, or what
-/// is left of it once it is cut from its end (RFC 4647, 3.4).
+/// Whether a range matches a tag by a scheme, both given by their subtags. By lookup (RFC 4647, 3.4) it does if the tag
+/// is the range, or what is left of the range after subtags are cut from its end.
 fn is_matched(scheme: Scheme, range: &LanguageRange, tag: &TagSubtags) -> bool
     ensures { IsTrue result ↔ MatchesBy (matching scheme) range.now tag.now }
 {
@@ -42,7 +42,8 @@ fn is_matched(scheme: Scheme, range: &LanguageRange, tag: &TagSubtags) -> bool
     }
 }
 
-/// What an outcome says of a range that is refused: the status, and the number of the fault.
+/// What an outcome says of a range that is refused: the status, and the number of the fault for a text that is no
+/// range.
 pub(crate) fn range_said(refusal: &RangeRefusal) -> Said
     ensures { result ≡ spec.range_said refusal.now }
 {
@@ -74,9 +75,9 @@ fn refuse_range(refusal: &RangeRefusal, buffer: &mut [u8]) -> Outcome
     deliver(range_said(refusal), range_text(refusal), buffer)
 }
 
-/// Tells whether a language range matches the tag that `text` is read as, by a scheme, or why the range, or else the
-/// tag, is refused: the outcome's `text` is 1 for the range, 2 for the tag. The buffer is for the variant that steps
-/// can repeat, where one of them is refused for that.
+/// Tells whether a language range matches the tag that `text` is read as, by a scheme. If the range is refused, or else
+/// the tag, the reason is answered, and the outcome's `text` is 1 for the range and 2 for the tag. If the reason is
+/// that steps can repeat a variant, the variant is written to the buffer.
 pub(crate) fn answer_match(
     alloc: Global,
     registry: &Registry,
@@ -87,7 +88,7 @@ pub(crate) fn answer_match(
 ) -> Outcome
     ensures { TellsMatch registry.now scheme range.now text.now buffer.old buffer.new result }
 {
-    // For the proof alone: what holds of every registry.
+    // Only for the proof: what holds of every registry.
     registry.promise();
     let known = match registry.range(alloc, range) {
         Ok(known) => known,

@@ -37,7 +37,8 @@ pub(crate) fn status_name(status: u8) -> &'static str
     }
 }
 
-/// The name of the fault of a number, as the program prints it. The number must be 0 to 55.
+/// The name of the fault with this number, as the program prints it, for example `BadByte` for 3. The number must be 0
+/// to 55.
 #[tactic(auto, unfolding(crate::specs::Names::fault_names))]
 pub(crate) fn fault_name(fault: u8) -> &'static str
     requires { fault ≤ 55 }
@@ -104,8 +105,8 @@ pub(crate) fn fault_name(fault: u8) -> &'static str
     }
 }
 
-/// The name of the kind of step that has a number, or an empty text if no kind has it. The clause `named` says it of
-/// each kind `k` that has the number, which is one at most.
+/// The name of the kind of step that has a number, or an empty text if no kind has it. In the clause `named`, `k` is
+/// the kind with this number; no two kinds have the same one.
 #[tactic(auto, using(crate::proofs::KindNumbers::same_kind))]
 pub(crate) fn kind_name(number: u8) -> &'static str
     ensures named { (k : StepKind) → number ≡ number_of.step_kind k → result.now ≡ name_of k }

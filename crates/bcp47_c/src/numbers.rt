@@ -1,5 +1,5 @@
-//! The numbers of statuses and faults, for which `bindings/c/bcp47.h` has constants. Faults of all kinds share one
-//! row of numbers, 1 to 55; 0 is none.
+//! The numbers of statuses and faults, for which `bindings/c/bcp47.h` has constants. Faults of all kinds are numbered
+//! together, 1 to 55; 0 means no fault.
 ghost use Rattle.std.specs.Prelude.{◌≡◌};
 ghost use Rattle.bcp47_c.specs.Numbers as numbers;
 
@@ -24,7 +24,7 @@ pub(crate) const BUFFER_TOO_SMALL: u8 = 5;
 pub(crate) const DIFFERENT: u8 = 6;
 /// The bytes are not in the format of a registry.
 pub(crate) const BAD_FILE: u8 = 7;
-/// A record gives no entry.
+/// A record can't be read as an entry.
 pub(crate) const BAD_RECORD: u8 = 8;
 /// The entries do not pass the check.
 pub(crate) const REJECTED: u8 = 9;
@@ -90,7 +90,7 @@ pub(crate) fn file_fault(kind: JarFaultKind) -> u8
     }
 }
 
-/// The number that tells a fault for which a record gives no entry, or 0 where memory ran out.
+/// The number that tells a fault for which a record can't be read as an entry, or 0 where memory ran out.
 pub(crate) fn record_fault(kind: RecordFaultKind) -> u8
     ensures { result ≡ numbers.record_fault kind }
 {

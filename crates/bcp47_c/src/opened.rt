@@ -1,4 +1,5 @@
-//! What a handle holds. A clause with `Some self.new` is one on a handle, and says what it holds then.
+//! What a handle holds, and its answer to each call. `Some self.new` in a clause is what the handle holds after the
+//! call.
 ghost use Rattle.std.specs.Prelude.{◌≡◌, IfOk, IfErr, Ok, Err, Some, length};
 ghost use Rattle.lt_canon.specs.ExplanationTexts.{IsExplanationTextOf};
 ghost use Rattle.lt_canon.specs.Texts.{IsCanonicalTextOf, IsTextRefusal};
@@ -29,11 +30,11 @@ use std::alloc::Global;
 use std::marker::Model;
 use std::sync::Arc;
 
-/// The bytes for which `texts` has room from the first: those of the longest text that is read as a tag.
+/// How many bytes `texts` has room for at first: as many as the longest text that is read as a tag has.
 const TEXT_ROOM: usize = 1024;
 
-/// A registry, and the records and the list of tags that are kept with it, all of which other handles may hold too; and room
-/// for the text of one call after another.
+/// A registry, and the records and the list of tags that are kept with it. Other handles may hold all of these too. It
+/// also has room in which calls make their texts.
 #[derive(Drop)]
 pub(crate) struct Opened {
     registry: Arc<Registry>,
@@ -98,7 +99,7 @@ impl Opened {
     }
 
     /// Keeps the records that bytes have with the registry, in place of those that were kept, and gives the status 0.
-    /// Or it gives 7 where the bytes are not in the format, and 4 where memory ran out; nothing changes then.
+    /// The status is 7 if the bytes are not in the format, and 4 if memory ran out; nothing changes then.
     pub(crate) fn keep(&mut self, alloc: Global, bytes: &[u8]) -> u8
         ensures { Keeps self.old (Some self.new) bytes.now result }
     {
@@ -115,9 +116,9 @@ impl Opened {
         }
     }
 
-    /// Keeps the list of the tags that texts are, in place of the one that was kept, and answers the status 0; or
-    /// answers why one of them is refused, and nothing changes then. The texts have these lengths, and stand one
-    /// after another in a text.
+    /// Keeps a list of tags in place of the one that was kept, and answers the status 0. The texts of the tags stand
+    /// one after another in `text`, and `lengths` are their lengths. If a tag is refused or memory runs out, that is
+    /// answered, and nothing changes.
     pub(crate) fn list(&mut self, alloc: Global, text: &[u8], lengths: &[usize]) -> Outcome
         ensures { Lists self.old (texts_of lengths.now text.now) (Some self.new) result }
     {
@@ -195,7 +196,7 @@ impl Opened {
     }
 
     /// Tells whether the tags that two texts are read as are equivalent, or answers why a text is no tag or a tag is
-    /// refused. The buffer is for the variant that steps can repeat, where a tag is refused for that.
+    /// refused. If steps can repeat a variant of a tag, the variant is written to the buffer.
     pub(crate) fn equal(
         &self,
         alloc: Global,
@@ -212,9 +213,9 @@ impl Opened {
         }
     }
 
-    /// Tells whether a language range matches a tag, by the scheme of a number; or why one of them is refused, or that
-    /// the number is that of no scheme. The buffer is for the variant that steps can repeat, where one is refused for
-    /// that.
+    /// Tells whether a language range matches a tag, by the scheme with this number; or why one of them is refused, or
+    /// that no scheme has the number. If steps can repeat a variant of the range or the tag, the variant is written to
+    /// the buffer.
     pub(crate) fn matches(
         &self,
         alloc: Global,
@@ -231,14 +232,17 @@ impl Opened {
         }
     }
 
-    /// Tells which of the tags that are kept is served to the reader of a header, or why the header is refused.
+    /// Tells the place, counted from 0, of the kept tag that is served for an Accept-Language header, or that there is
+    /// none, or why the header is refused.
     pub(crate) fn best(&self, alloc: Global, header: &[u8]) -> Outcome
         ensures { Serves self.now.entries self.now.lists header.now result }
     {
         answer_best(alloc, &self.registry, &self.available, header)
     }
 
-    /// Tells which of the tags that are kept the reader of a header accepts, or why the header is refused.
+    /// Writes the places, counted from 0, of the kept tags that an Accept-Language header accepts to the front of
+    /// `room`, and answers how many there are. If they don't fit, none is written, and BufferTooSmall is answered with
+    /// their number. If the header is refused, that is answered.
     pub(crate) fn accepted(&self, alloc: Global, header: &[u8], room: &mut [usize]) -> Outcome
         ensures { Accepts self.now.entries self.now.lists header.now room.old room.new result }
     {
@@ -266,8 +270,8 @@ impl Opened {
         }
     }
 
-    /// Tells how many steps the explanation of the tag has that a text is read as, or answers why there is none. The
-    /// buffer is for the variant that steps can repeat, where the tag is refused for that.
+    /// Counts the steps in the explanation of the tag that a text is read as, or answers why there is none. If steps
+    /// can repeat a variant of the tag, the variant is written to the buffer.
     pub(crate) fn count_steps(&self, alloc: Global, text: &[u8], buffer: &mut [u8]) -> Outcome
         ensures { CountsSteps self.now.entries text.now buffer.old buffer.new result }
     {
@@ -284,7 +288,9 @@ impl Opened {
         }
     }
 
-    /// Writes the fields of the record of a number, or answers that memory ran out.
+    /// Writes the fields of the kept record with this number, counted from 1: their lengths to the front of `room`, and
+    /// their texts to the buffer. A record that is not there has no fields. If one of the two doesn't fit, nothing is
+    /// written, and BufferTooSmall is answered. If memory runs out, that is answered.
     pub(crate) fn record(
         &self,
         alloc: Global,
@@ -300,8 +306,8 @@ impl Opened {
         }
     }
 
-    /// Tells whether steps in numbers lead from the tag of `text`, one after another, to the tag of `last`, or what is
-    /// wrong.
+    /// Tells whether steps, given in numbers, lead from the tag of `text`, one after another, to the tag of `last`, or
+    /// what is wrong with a text or a step.
     pub(crate) fn verify(
         &self,
         alloc: Global,

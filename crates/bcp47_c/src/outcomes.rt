@@ -19,13 +19,14 @@ pub struct Outcome {
     /// The number of the fault, 1 to 55, whose name `bcp47_write_fault_name` writes, or that of the class of a tag;
     /// else 0.
     pub detail: u32,
-    /// The place of the fault: a subtag, a line, a record or a step, each counted from 1; of rows that are
-    /// counted, how many; else 0.
+    /// The place of the fault: a subtag, a line, a record, a step or a list element, each counted from 1. If a call
+    /// counts something (steps, parts, fields or tags), how many there are. For `bcp47_handle_best`, the place of the
+    /// tag, counted from 0. Else 0.
     pub place: u64,
     /// How many bytes the text has, also where it does not fit the buffer.
     pub length: usize,
-    /// Where `bcp47_handle_match`, `bcp47_write_with` or `bcp47_handle_list` refuses one of its texts, which, from 1; else 0.
-    /// For the other calls of two texts `bindings/c/bcp47.c` tells it.
+    /// If `bcp47_handle_match`, `bcp47_write_with` or `bcp47_handle_list` refuses one of its texts, the number of that
+    /// text, counted from 1; else 0. For the other calls of two texts `bindings/c/bcp47.c` tells the number.
     pub text: u32,
     /// Always 0.
     pub reserved: u32,
@@ -50,8 +51,8 @@ pub(crate) fn ended(status: u8) -> Said
     }
 }
 
-/// Writes a text to the front of a buffer, and answers what is `said`, with the text's length. Where the text doesn't
-/// fit, nothing is written, and the status is `BUFFER_TOO_SMALL`.
+/// Writes a text to the front of a buffer, and answers what is `said`, with the text's length. If the text doesn't fit,
+/// nothing is written, and the status is `BUFFER_TOO_SMALL`, with the same length.
 pub(crate) fn deliver(said: Said, text: &[u8], buffer: &mut [u8]) -> Outcome
     ensures { IsDelivered said text.now buffer.old buffer.new result }
 {
@@ -114,7 +115,8 @@ pub(crate) fn refuse(refusal: &TextRefusal, buffer: &mut [u8]) -> Outcome
     deliver(refusal_said(refusal), refusal_text(refusal), buffer)
 }
 
-/// The outcome with this status; its place is `count`, the number of rows, and its length that of the text in bytes.
+/// The outcome with this status. Its place is `count`, the number of rows, and `length` is how many bytes their text
+/// has.
 fn counted(status: u8, count: usize, length: usize) -> Outcome
     ensures { result ≡ spec.outcome (record { status = status; detail = 0; place = count }) length }
 {
@@ -128,8 +130,9 @@ fn counted(status: u8, count: usize, length: usize) -> Outcome
     }
 }
 
-/// Writes rows to the front of `room`, and their text to the front of a buffer. Where one of them doesn't fit, neither is
-/// written, and the status is `BUFFER_TOO_SMALL`.
+/// Writes rows to the front of `room`, and their text to the front of a buffer. If one of the two doesn't fit, neither
+/// is written, and the status is `BUFFER_TOO_SMALL`. In both cases the number of rows is answered as the place, and the
+/// length of the text.
 pub(crate) fn deliver_rows<T: Copy>(
     rows: &[T],
     text: &[u8],
@@ -148,7 +151,7 @@ pub(crate) fn deliver_rows<T: Copy>(
     counted(DONE, count, length)
 }
 
-/// The outcome, with the number of the text that is refused. Where memory ran out, no text is named.
+/// The outcome, with the number of the text that is refused; without that number if it says that memory ran out.
 pub(crate) fn of_text(number: u32, outcome: Outcome) -> Outcome
     ensures { result ≡ spec.of_text number outcome }
 {

@@ -1,4 +1,5 @@
-//! The parent of a tag.
+//! The parent of a tag: the tag without its last part, and without the singletons that then end it (RFC 4647, 3.4). A
+//! part is a subtag, or a whole grandfathered tag.
 ghost use Rattle.std.specs.Prelude.{◌≡◌, IfOk, IfErr, None};
 ghost use Rattle.std.specs.Option.{option_copied};
 ghost use Rattle.lt_tag.specs.Texts.{text_of};
@@ -29,8 +30,8 @@ fn show(alloc: Global, tag: &Tag) -> Result<Shown, OutOfMemory>
     Ok(Shown { text, parts })
 }
 
-/// The last of some parts that has more than one byte, so is no singleton. None if no part has; the None of the
-/// clause says that none was found before them.
+/// The last of some parts that has more than one byte, and so is no singleton. None if there is none. The None of the
+/// clause says that no such part comes before these.
 fn last_long(parts: &[Part]) -> Option<&Part>
     ensures { option_copied result ≡ spec.last_long None parts.now }
 {
@@ -43,8 +44,8 @@ fn last_long(parts: &[Part]) -> Option<&Part>
     last
 }
 
-/// The text of a tag without its last subtag, and without the singletons that then end it. The only refusal is running
-/// out of memory.
+/// The text of a tag without its last part, and without the singletons that then end it: empty if nothing is left. The
+/// only refusal is running out of memory.
 fn parent(alloc: Global, tag: &Tag) -> Result<Vec<u8>, OutOfMemory>
     ensures { IfOk result (λ parent. parent.items ≡ spec.parent_of tag.now) }
 {
@@ -66,9 +67,10 @@ fn read_parent(alloc: Global, text: &[u8]) -> Result<Vec<u8>, TextRefusal>
     Ok(parent(alloc, &tag)?)
 }
 
-/// Writes the text, in conventional case, of the tag that a text is read as, without its last subtag, and without the singletons
-/// that then end it (RFC 4647, 3.4): `zh-Hant` for `zh-Hant-TW`, and nothing where nothing is left. Status 1 says that the text is no
-/// tag, 4 that memory ran out.
+/// Writes the text, in conventional case, of the tag that a text is read as, without its last subtag, and without the
+/// singletons that then end it (RFC 4647, 3.4): `zh-Hant` for `zh-Hant-TW`, and nothing if nothing is left. A
+/// grandfathered tag has no parent: nothing is written. Status 1 says that the text is no tag, with the number of the
+/// fault and its place, and 4 that memory ran out.
 #[unsafe(no_mangle)]
 pub extern "C" fn bcp47_write_parent(alloc: Global, text: &[u8], buffer: &mut [u8]) -> Outcome
     ensures { Answers (spec.IsParentOf text.now) (IsReadingRefusal text.now) buffer.old buffer.new result }

@@ -81,8 +81,8 @@ fn kind_of(number: u8) -> Option<PartKind>
     })
 }
 
-/// The name of the kind of part that has a number, or an empty text if no kind has it. The clause `named` says it of
-/// each kind `k` that has the number, which is one at most.
+/// The name of the kind of part that has a number, or an empty text if no kind has it. In the clause `named`, `k` is
+/// the kind with this number; no two kinds have the same one.
 #[tactic(auto, using(crate::proofs::PartKindNumbers::same_part_kind))]
 fn part_kind_name(number: u8) -> &'static str
     ensures named { (k : PartKind) → number ≡ spec.part_kind k → result.now ≡ name_of k }
@@ -123,9 +123,9 @@ fn read_parts(alloc: Global, text: &[u8]) -> Result<(Vec<u8>, Vec<PartNumbers>),
 /// Writes the text, in conventional case (RFC 5646, 2.1.1), of the tag that a text is read as, and its parts (RFC
 /// 5646, 2.1; RFC 6067, 2.1; RFC 6497, 2.2): status 0, and their number as the place. It asks no registry.
 ///
-/// Status 1 says that the text is no tag, with the number of the fault and its place, 4 that memory ran out. Where
-/// the text or the parts do not fit, neither is written, and the status is 5; the place is then the number of parts,
-/// and the length that of the text. A tag has at most 512 parts and 1,024 bytes.
+/// Status 1 says that the text is no tag, with the number of the fault and its place, and 4 that memory ran out. If
+/// the text does not fit the buffer, or the parts the room, neither is written, and the status is 5; the place is then
+/// the number of parts, and the length that of the text. A tag has at most 512 parts and 1,024 bytes.
 #[unsafe(no_mangle)]
 pub extern "C" fn bcp47_write_parts(
     alloc: Global,

@@ -55,7 +55,8 @@ fn after(text: &[u8], mark: u8) -> &[u8]
     }
 }
 
-/// Whether a modifier says nothing of the tag: there is none, or it is of a currency or of an order.
+/// Whether a modifier says nothing of the tag: it is empty, or `euro`, which names a currency, or `abegede`, which
+/// names an order of letters.
 fn is_silent(text: &[u8]) -> bool
     ensures { result ≡ spec.is_silent text.now }
 {
@@ -127,8 +128,8 @@ fn hyphen_for(byte: u8) -> u8
     if byte == b'_' { b'-' } else { byte }
 }
 
-/// The text of a tag that a locale has, without its codeset and its modifier: with hyphens for underscores. `C` and
-/// `POSIX` stand for American English with the order and the forms of POSIX.
+/// The text of the tag of a locale, which is given without its codeset and its modifier: hyphens stand for underscores.
+/// `C` and `POSIX` stand for American English with the order and the forms of POSIX.
 fn tag_text(alloc: Global, locale: &[u8]) -> Result<Vec<u8>, OutOfMemory>
     ensures { IfOk result (λ text. text.items ≡ spec.tag_text locale.now) }
 {
@@ -142,8 +143,8 @@ fn tag_text(alloc: Global, locale: &[u8]) -> Result<Vec<u8>, OutOfMemory>
     Ok(text)
 }
 
-/// The text of the tag that a text is read as, in conventional case, or why the text is no tag; the 0 of the clause
-/// says that places count all its subtags.
+/// The text of the tag that a text is read as, in conventional case, or why the text is no tag. The 0 of the clause
+/// says that no subtag is left out when the place of a fault is counted.
 #[tactic(auto, using(crate::proofs::Locales::no_fault_memory))]
 fn show(alloc: Global, text: &[u8]) -> Result<Vec<u8>, Said>
     ensures shown { IfOk result (λ made. IsShownAs text.now made.items) }
@@ -158,8 +159,8 @@ fn show(alloc: Global, text: &[u8]) -> Result<Vec<u8>, Said>
     }
 }
 
-/// The text of the tag that a text is read as, with the value in place of the section, or as it is without a section; or why
-/// the text or the value is refused.
+/// The text of the tag that a text is read as, with the value in place of the section; if there is no section, the tag
+/// is not changed. Or why the text, the value or what they make is refused.
 #[tactic(auto, using(crate::proofs::Locales::not_changed))]
 fn change(
     alloc: Global,
@@ -196,13 +197,14 @@ fn tag_of(alloc: Global, name: &[u8]) -> Result<Vec<u8>, Said>
     change(alloc, section_of(modifier), &text, value_of(modifier))
 }
 
-/// Writes the text, in conventional case, of the tag that the name of a POSIX locale stands for (a rule of this project):
-/// `sr-Latn-RS` for `sr_RS.UTF-8@latin`. Hyphens stand for underscores, and the codeset goes. The modifiers `latin`,
-/// `iqtelif`, `cyrillic` and `devanagari` name a script, `valencia` a variant, `saaho` a language; `euro` and `abegede` say
-/// nothing of the tag. `C` and `POSIX` stand for `en-US-u-va-posix`. It asks no registry.
+/// Writes the text, in conventional case, of the tag that the name of a POSIX locale stands for: `sr-Latn-RS` for
+/// `sr_RS.UTF-8@latin`. No RFC says which tag it is: that is a rule of this project. Hyphens stand for underscores, and
+/// the codeset is left out. The modifiers `latin`, `iqtelif`, `cyrillic` and `devanagari` name a script, `valencia` a
+/// variant, `saaho` a language; `euro` and `abegede` say nothing of the tag. `C` and `POSIX` stand for
+/// `en-US-u-va-posix`. It asks no registry.
 ///
-/// Status 1 says that there is no tag, with the fault and its place, which is that of a subtag; another modifier is the fault
-/// BadByte at 0. Status 4 says that memory ran out.
+/// Status 1 says that there is no tag, with the number of the fault and its place, a subtag of the name; any other
+/// modifier is the fault BadByte at 0. Status 4 says that memory ran out.
 #[unsafe(no_mangle)]
 pub extern "C" fn bcp47_write_posix(alloc: Global, name: &[u8], buffer: &mut [u8]) -> Outcome
     ensures { WritesPosix name.now buffer.old buffer.new result }

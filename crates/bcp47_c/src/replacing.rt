@@ -1,5 +1,6 @@
-//! A tag with one of its sections replaced or taken away. The new section is a value, which is read as part of a text
-//! that is a tag, the bearing text: a language as it is, and any other value behind the language `de`.
+//! A tag with one of its sections replaced or taken away. The new section is given as a text, the value. It is read as
+//! part of a text that must be a tag, the bearing text: that is the value itself for a language, and the value behind
+//! the language `de` for any other section.
 ghost use Rattle.std.specs.Prelude.{◌≡◌, ◌≤◌, ◌++◌, None, IfOk, IfErr, OnOk, not, position, drop, flat_map, length, option_to_list, option_copied};
 ghost use Rattle.std.specs.List.{join_with_byte};
 ghost use Rattle.lt_tag.specs.Lists.{longest_text};
@@ -44,14 +45,15 @@ struct Langtag {
     private: Vec<Subtag>,
 }
 
-/// Why a section is not replaced, and of which text that is told: 1 the tag's, 2 the value's, 0 what they make.
+/// Why a section is not replaced (`said`), and which text is refused: 1 the tag's, 2 the value, 0 what they make.
 #[derive(Drop)]
 pub(crate) struct Refused {
     pub(crate) text: u32,
     pub(crate) said: Said,
 }
 
-/// The section that has a number, which is that of the kind of part that begins it, or None if none has it.
+/// The section with this number in C, or None if there is none. The number of a section is that of the kind of its
+/// first part: 6, a singleton, for the extensions.
 fn section_of(number: u32) -> Option<Section>
     ensures { IsSectionOf number result }
 {
@@ -139,8 +141,8 @@ impl From<OutOfMemory> for Said {
     }
 }
 
-/// The langtag that a tag is. Refused where it is a tag of private use, or a grandfathered one: these alone have no
-/// core.
+/// The langtag that a tag is. Refused if the whole tag is private use, such as `x-a`, or grandfathered, such as
+/// `i-klingon`: only those have no core.
 fn langtag_of(tag: Tag) -> Result<Langtag, Said>
     ensures langtag { IfOk result (λ langtag. form langtag ≡ tag) }
     ensures none { IfErr result (λ said. (core_of tag ≡ None) × (said ≡ spec.no_language)) }
@@ -159,7 +161,8 @@ fn langtag_of(tag: Tag) -> Result<Langtag, Said>
     }
 }
 
-/// The langtag that a text is read as, or why it is none. All its subtags are counted, as the 0 of the clause says.
+/// The langtag that a text is read as, or why it is none. The 0 of the clause says that no subtag is left out when the
+/// place of a fault is counted.
 fn read_langtag(alloc: Global, text: &[u8]) -> Result<Langtag, Said>
     ensures langtag { IfOk result (λ langtag. ReadsLangtag text.now (form langtag)) }
     ensures none { IfErr result (IsNoLangtag 0 text.now) }
@@ -170,9 +173,9 @@ fn read_langtag(alloc: Global, text: &[u8]) -> Result<Langtag, Said>
     }
 }
 
-/// The bearing text, by which the value of a section is read: of the value `hk` it is `hk` for a language, and
-/// `de-hk` for any other section, for which no value gives `de`. A language has two letters at least, so no value
-/// that fits a tag is too long behind it.
+/// The bearing text, by which the value of a section is read: for a language the value itself, and for any other
+/// section `de-hk` for the value `hk`, and `de` for an empty value. No language is shorter than `de`, so a value that
+/// is too long behind `de` is too long for every tag. Refused if memory runs out.
 fn bearing(alloc: Global, section: Section, value: &[u8]) -> Result<Vec<u8>, OutOfMemory>
     ensures { IfOk result (λ text. text.items ≡ spec.bearing section value.now) }
 {
@@ -187,7 +190,7 @@ fn bearing(alloc: Global, section: Section, value: &[u8]) -> Result<Vec<u8>, Out
     Ok(text)
 }
 
-/// The parts of a value. `parts` are those of the text by which it is read.
+/// The parts of a value. `parts` are those of its bearing text.
 fn parts_of_value(section: Section, parts: &[Part]) -> &[Part]
     ensures { result.now ≡ drop (spec.before_value section) parts.now }
 {
@@ -200,8 +203,8 @@ fn parts_of_value(section: Section, parts: &[Part]) -> &[Part]
     }
 }
 
-/// Which part of a value, counted from 0, is in another section. None if none is. `parts` are those of the text by
-/// which the value is read.
+/// The place, counted from 0, of the first part of a value that is not in the section. None if all parts are. `parts`
+/// are those of the value's bearing text.
 fn foreign(section: Section, parts: &[Part]) -> Option<usize>
     ensures { result ≡ position (λ (part : Part). not (spec.has section part.kind)) (drop (spec.before_value section) parts.now) }
 {
@@ -210,8 +213,9 @@ fn foreign(section: Section, parts: &[Part]) -> Option<usize>
         .position(|part| !has(section, part.kind))
 }
 
-/// The langtag that has the value of a section and no other, or why the value has not its form. An empty value takes
-/// the section away, but is refused for a language.
+/// The langtag that the bearing text of a value is read as, which has no part of another section but `de`; or why the
+/// value does not have the form of the section. An empty value gives a langtag without the section, and is refused for
+/// a language.
 #[tactic(auto, using(crate::proofs::Replaced::no_value_memory))]
 fn read_value(alloc: Global, section: Section, value: &[u8]) -> Result<Langtag, Said>
     ensures value { IfOk result (λ langtag. ReadsValue section value.now (form langtag)) }
@@ -234,8 +238,8 @@ fn read_value(alloc: Global, section: Section, value: &[u8]) -> Result<Langtag, 
     }
 }
 
-/// The core whose language and extlangs the tag has, once a section of it is replaced by that of the other. The two
-/// clauses speak of these alone, since the rest of that core may be another.
+/// The core whose language and extlangs the tag has, once a section of it is replaced by that of the other. The clauses
+/// state only these two, since the rest of that core need not be what the tag then has.
 fn language<'a>(section: Section, tag: &'a Langtag, other: &'a Langtag) -> &'a Core
     ensures language { result.now.language ≡ (with_core section tag.now.core other.now.core).language }
     ensures extlangs { result.now.extlangs ≡ (with_core section tag.now.core other.now.core).extlangs }
@@ -371,8 +375,8 @@ fn join(
 
 /// The text of a tag with a section replaced by that of another, in conventional case (`made`). Both must have the form
 /// of a tag. The joined subtags are read again, since only a tag that was read is written in conventional case. Refused
-/// if the text has more than 1,024 bytes, `longest_text`, or where memory runs out: by `long` a refusal is one of these
-/// two, and by `short` no longer text is given.
+/// if the text has more than 1,024 bytes, which is `longest_text`, or memory runs out, and for no other reason
+/// (`long`). By `short` a text that is given is not longer than that.
 fn write_replaced(
     alloc: Global,
     section: Section,
@@ -419,13 +423,13 @@ pub(crate) fn replace(
 
 /// Writes the text, in conventional case, of the tag that a text is read as, with one of its sections replaced by a
 /// value (RFC 5646, 2.1): `zh-Hant-TW` for `zh-TW` and the script `hant`. An empty value takes the section away: `zh`
-/// for `zh-TW` and no region. A section is told by the kind of part that begins it: 1, a language, with its extlangs;
-/// 3, a script; 4, a region; 5, all variants; 6, all extensions; 18, private use with its `x`. It asks no registry.
+/// for `zh-TW` and no region. `part` is the number of the section, which is that of the kind of its first part: 1, a
+/// language, with its extlangs; 3, a script; 4, a region; 5, all variants; 6, all extensions; 18, private use with its
+/// `x`. It asks no registry.
 ///
-/// Status 1 says that a text is refused, with the fault and its place. Either text 1 is no langtag, for example
-/// `i-klingon` (BadLanguage at 1); or text 2, the value, has not the form of the section; or, where the outcome names
-/// no text, what they make has more than 1,024 bytes. Status 4 says that memory ran out, and 14 that the number is that
-/// of no section.
+/// Status 1 says that a text is refused, with the fault and its place. The outcome's `text` is 1 if `text` is no
+/// langtag, for example `i-klingon` (BadLanguage at 1), 2 if the value does not have the form of the section, and 0 if
+/// what they make has more than 1,024 bytes. Status 4 says that memory ran out, and 14 that no section has the number.
 #[unsafe(no_mangle)]
 pub extern "C" fn bcp47_write_with(
     alloc: Global,

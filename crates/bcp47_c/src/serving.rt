@@ -1,4 +1,4 @@
-//! The list of tags that a handle keeps, and which of them is served to the reader of an Accept-Language header.
+//! The list of tags that a handle keeps, and which of them are served or accepted for an Accept-Language header.
 ghost use Rattle.std.specs.Prelude.{◌≡◌, IfErr, IfOk, length, map, min};
 ghost use Rattle.lt_canon.specs.declared.refusals.TextRefusal.TheVariants as refusals;
 ghost use Rattle.lt_range.specs.Available.{AreAvailable, IsAvailableRefusal};
@@ -16,7 +16,8 @@ use std::sync::Arc;
 /// The greatest number that an `int` of C has.
 const GREATEST_INT: usize = 2147483647;
 
-/// The texts of these lengths that stand one after another in a text; the last of them are shorter where it ends before.
+/// The texts with these lengths that stand one after another in `text`. If `text` ends too early, the last of them are
+/// shorter or empty.
 fn cut_by_lengths<'a>(
     alloc: Global,
     text: &'a [u8],
@@ -44,8 +45,8 @@ fn no_memory() -> AvailableRefusal
     }
 }
 
-/// The list of the tags that texts of these lengths are, which stand one after another in a text; or why one of them
-/// is refused. In the clause `listed` the count of the texts says that all of them are listed.
+/// The list of the tags whose texts stand one after another in `text`, with these lengths; or which of them is refused
+/// and why, or that memory ran out. In the clause `listed` the count of the texts says that all of them are listed.
 pub(crate) fn list_tags(
     alloc: Global,
     registry: &Registry,
@@ -72,8 +73,8 @@ fn as_int(number: usize) -> u32
     number.min(GREATEST_INT) as u32
 }
 
-/// Answers why a tag of a list is refused, with the number of the tag, counted from 1; where memory ran out no tag is
-/// named. No text is answered: text and buffer are empty.
+/// Answers why a tag of a list is refused, with the number of the tag, counted from 1; if memory ran out, no tag is
+/// named. No text is written.
 pub(crate) fn refuse_tag(refused: &AvailableRefusal) -> Outcome
     ensures { result ≡ spec.tag_refused refused.now }
 {
@@ -82,7 +83,7 @@ pub(crate) fn refuse_tag(refused: &AvailableRefusal) -> Outcome
 }
 
 /// What an outcome says of a header that is refused: the status, the number of the fault, and the number of the list
-/// element.
+/// element; without that number if each element is a range but one of the ranges is refused.
 fn header_said(refusal: &HeaderRefusal) -> Said
     ensures { result ≡ spec.header_said refusal.now }
 {
@@ -104,7 +105,8 @@ fn refuse_header(refusal: &HeaderRefusal) -> Outcome
     deliver(header_said(refusal), &[], &mut [])
 }
 
-/// What an outcome says of the place of the tag to serve: 1 as the detail where there is one.
+/// What an outcome says of the tag to serve: its place, with 1 as the detail; or no place and 0 as the detail if no tag
+/// is served.
 fn served_said(best: Option<usize>) -> Said
     ensures { result ≡ spec.served_said best }
 {
@@ -118,7 +120,8 @@ fn served_said(best: Option<usize>) -> Said
     }
 }
 
-/// Tells which of the tags is served to the reader of a header, or why the header is refused.
+/// Tells the place, counted from 0, of the tag of `available` that is served for a header, or that there is none, or
+/// why the header is refused.
 pub(crate) fn answer_best(
     alloc: Global,
     registry: &Registry,
@@ -136,7 +139,9 @@ pub(crate) fn answer_best(
     }
 }
 
-/// Tells which of the tags the reader of a header accepts, or why the header is refused.
+/// Writes the places, counted from 0, of the tags of `available` that a header accepts to the front of `room`, and
+/// answers how many there are. If they don't fit, none is written, and BufferTooSmall is answered with their number. If
+/// the header is refused or memory runs out, that is answered.
 pub(crate) fn answer_accepted(
     alloc: Global,
     registry: &Registry,

@@ -30,9 +30,9 @@ fn step_of(told: StepNumbers) -> Option<Step>
     })
 }
 
-/// The steps that the numbers tell, up to the first numbers that tell none. These are no refusal here, since a fault of
-/// a step before them is answered first: the caller sees by the count of the steps whether there are such. Refused only
-/// where memory runs out.
+/// The steps that `told` stands for, up to the first numbers that stand for no step. Those are no refusal here, since a
+/// fault of a step before them is to be answered first; the caller sees that there are some if the steps are fewer than
+/// `told`. Refused only if memory runs out.
 pub(crate) fn front_steps(alloc: Global, told: &[StepNumbers]) -> Result<Vec<Step>, OutOfMemory>
     ensures { IfOk result (λ steps. IsFront told.now steps.items) }
 {

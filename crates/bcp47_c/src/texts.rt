@@ -13,8 +13,8 @@ use crate::outcomes::{Outcome, Said, deliver, refuse};
 use bcp47::{Record, Refusal, Registry, Tag, TextRefusal, append_tag};
 use std::alloc::Global;
 
-/// Puts into `extlang` the text of the extlang form of the tag that a text is read as (RFC 5646, 4.5), in place of what
-/// it held; or answers why there is none.
+/// Puts the text of the extlang form of the tag that a text is read as (RFC 5646, 4.5) into `extlang`, in place of what
+/// that held; or answers why there is none.
 pub(crate) fn write_extlang(
     alloc: Global,
     registry: &Registry,
@@ -57,7 +57,7 @@ pub(crate) fn classify(
     deliver(said, shown, buffer)
 }
 
-/// How many steps the explanation of the tag has that a text is read as, or why there is none.
+/// The number of steps in the explanation of the tag that a text is read as, or why there is none.
 pub(crate) fn step_count(
     alloc: Global,
     registry: &Registry,
@@ -72,7 +72,7 @@ pub(crate) fn step_count(
 }
 
 /// What a registry has for the parts of the tag that a text is read as, with the fields of these records, as an array
-/// of JSON. Refused if the text is no tag.
+/// of JSON. Refused if the text is no tag or memory runs out.
 pub(crate) fn rows_text(
     alloc: Global,
     registry: &Registry,
@@ -89,7 +89,7 @@ pub(crate) fn rows_text(
 }
 
 /// Checks that the tag that a text is read as is valid (RFC 5646, 2.2.9). Refused with what is wrong with the text or
-/// the tag.
+/// the tag, or for lack of memory.
 pub(crate) fn validity(alloc: Global, registry: &Registry, text: &[u8]) -> Result<(), TextRefusal>
     ensures valid { OnOk result (IsValidText registry.now text.now) }
     ensures refusal { IfErr result (λ refusal. IsValidityRefusal registry.now text.now refusal) }

@@ -1,5 +1,6 @@
-//! Whether steps in numbers are a trace: each leads on from the tag to which the one before led, and the last to the
-//! tag that is told. The front of the numbers are the steps up to the first numbers that are no step.
+//! Whether steps, given in numbers, are a trace: each leads on from the tag to which the one before it led, and the
+//! last one leads to a tag that is given. The front of the numbers is the steps before the first numbers that are no
+//! step.
 ghost use Rattle.std.specs.Prelude.{◌≡◌, IfErr, OnOk};
 ghost use Rattle.bcp47_c.specs.Traces as spec;
 ghost use Rattle.bcp47_c.specs.Traces.{IsToldFault, TellsTrace};
@@ -10,8 +11,9 @@ use crate::steps::{StepNumbers, front_steps};
 use bcp47::{Registry, Tag, Trace, TraceFault};
 use std::alloc::Global;
 
-/// The fault of a trace whose step number `next`, counted from 1, is no step, by the fault of the steps before it. If these
-/// lead to another tag than the last, the fault is that there is no step `next`.
+/// The fault of a trace whose step number `next`, counted from 1, is no step. `fault` is that of the steps before it,
+/// and is kept, unless it says only that they lead to another tag than the last. Then the fault is that there is no
+/// step `next`.
 fn of_front(fault: TraceFault, next: usize) -> TraceFault
     ensures { result ≡ spec.of_front fault next }
 {
@@ -23,8 +25,8 @@ fn of_front(fault: TraceFault, next: usize) -> TraceFault
     }
 }
 
-/// Checks that the steps that the numbers `told` stand for lead from a valid tag, one after another, to the tag `last`.
-/// Refused with the first fault.
+/// Checks that the steps that `told` stands for lead from a valid tag, one after another, to the tag `last`. Refused
+/// with the first fault: the tag is not valid, a step does not lead on or is no step, or the steps lead elsewhere.
 pub(crate) fn judge(
     alloc: Global,
     registry: &Registry,
@@ -49,7 +51,8 @@ pub(crate) fn judge(
     }
 }
 
-/// What an outcome says of steps that are no trace: the status, and the number of the fault or of the step.
+/// What an outcome says of steps that are no trace: the status, with the number of the fault and its place if the tag
+/// is not valid, and with the number of the step as the place if a step does not lead on.
 pub(crate) fn trace_said(fault: TraceFault) -> Said
     ensures { result ≡ spec.trace_said fault }
 {

@@ -3,8 +3,9 @@ use lt_tool::{Command, WordsFault, read_words, word_text};
 use std::alloc::{Alloc, AllocError};
 use std::env::{Env, FillError};
 
-/// The bytes of the word of this number, if there is one. The buffer, at first of 256 bytes, is doubled as long as
-/// the word does not fit, so at most as often as a `usize` has bits.
+/// The bytes of the word of this number, counted from 0, or None if there is none. The buffer, at first of 256 bytes,
+/// is doubled as long as the word does not fit, so at most as often as a `usize` has bits. Refused with `OutOfMemory`
+/// if memory runs out, or the word never fits.
 fn word_bytes(rt: &HostRuntime, number: usize) -> Result<Option<Vec<u8>>, WordsFault> {
     let mut buffer = vec![in rt.alloc(); 0u8; 256]?;
     for _ in 0..usize::BITS {

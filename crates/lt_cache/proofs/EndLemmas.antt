@@ -1,4 +1,6 @@
--- What one canonical core says of an end holds with each: the lists and the texts of ends.
+-- The proof of `ends_are_shared`: what follows one canonical core with an end, in the canonical text of the two,
+-- follows every canonical core with the same end. So the cache may keep it for the end. An end goes from the hyphen
+-- before the first one-character subtag on; the list of a text is its subtags in lower case.
 use Rattle.std.proofs.Common.{◌≡◌, ◌≢◌, ℕ, ◌≤◌, ◌<◌, ◌+◌, ◌==◌, Bool, true, not, List, [], ◌∷◌, ◌++◌, length, map, refl}
 use Rattle.std.proofs.Common.{sym, ap, ◌∙◌, subst, arith, inr}
 use Rattle.std.specs.List.{AllByRecursion, join_with_byte, list_all, onto_first}
@@ -39,7 +41,7 @@ use Rattle.std.proofs.lemmas.Bool.Decides.{nat_tests}
 
 -- ---- lists
 
--- a byte, `b`, is put onto the first piece alone: pieces that follow, `qs`, stay
+-- a byte, `b`, is put onto the first piece only: the pieces `qs` that follow stay
 onto_more : (b : ℕ) (ps qs : List (List ℕ)) → 0 < length ps → onto_first b (ps ++ qs) ≡ onto_first b ps ++ qs
 onto_more b [] qs n = absurd (omega arith)
 onto_more b (p ∷ ps) qs n = refl
@@ -94,7 +96,7 @@ cut_first mark xs rest h first = before-append mark xs rest h ∙ ap (λ (l : Li
 abbrev pub spell_rest : List ExtensionParts → List (List ℕ) → List (List ℕ)
 spell_rest es ps = spell_extensions es ++ spell_private ps
 
--- of one extension alone these are its own subtags
+-- of one extension and no private use, these are the extension's own subtags
 pub extension_alone : (e : ExtensionParts) → spell_rest (e ∷ []) [] ≡ spell_extension e
 extension_alone e = append-nil _ ∙ append-nil (spell_extension e)
 
@@ -111,7 +113,7 @@ rest_single es ps = refl
 pub core_no_single : (c : CoreParts) → IsCore c → no_single (spell_core c) ≡ true
 core_no_single c k = core_all (λ (s : List ℕ). not (length s == 1)) (λ s l. ap not (ne_eqb (length s) 1 (λ e. omega (arith, l.long)))) c k
 
--- the list of a text that is read as a core alone is the subtags of the core
+-- the list of a text that is read as a tag of only a core is the subtags of the core
 pub core_list : (front : List ℕ) (c : CoreParts) → HasTag front (core_alone c) → list_of front ≡ spell_core c
 core_list front c read = sym read.spelled ∙ append-nil (spell_core c)
 

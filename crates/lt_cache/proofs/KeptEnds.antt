@@ -1,4 +1,6 @@
--- Ends that were made canonical lately, and what was appended for them.
+-- For `RecentEnds`, the cache of ends: what is put there is right, what is there stays right, and what is appended from
+-- there is right. An end goes from the hyphen before the first one-character subtag on; the fields of a `t` extension
+-- follow its source, a langtag.
 use Rattle.std.proofs.Common.{◌≡◌, ℕ, ◌≤◌, ◌+◌, ◌==◌, Bool, true, not, List, [], ◌∷◌, ◌++◌, length, refl, sym, ap, ◌∙◌}
 use Rattle.std.proofs.Common.{subst, arith, inl, inr, false, Option, ◌-◌, take, drop, IsTrue}
 use Rattle.std.specs.List.{list_all, All, swap}
@@ -24,7 +26,8 @@ use Rattle.std.proofs.lemmas.List.Sorted.{All-permutation}
 use Rattle.lt_cache.proofs.EndLemmas.{ends_shared, list_single}
 use Rattle.lt_cache.proofs.SourceLemmas.{fields_shared}
 
--- what is true of each place, and of an answer, is true of each place after the answer was put
+-- if `P` is true of each place of a cache, and of a place with an answer, it is true of each place after that answer
+-- was put
 pub all_put : (P : Option Kept → Type 0) (old new : List (Option Kept)) (line answer : List ℕ) (refused : Bool)
     → PutsIn old new line answer refused → P (kept line answer refused) → All P old → All P new
 all_put P old new line answer refused (inl same) right all = subst (All P) (sym same) all
@@ -43,7 +46,8 @@ fields_apart line E K =
     ∙ list_single E.singleton E.rest E.single)) ∙ K.no_singleton in
     cc
 
--- the canonical form of an end was appended by what is kept for its fields, after a source that is canonical
+-- `told` says whether `-t-`, a canonical source, and what is kept for the fields of an end were appended. If so, that
+-- is the canonical form of the end; if not, nothing was appended.
 pub transformed_appended : (R : List EntryParts) (table : List (Option Kept)) (source fields end old middle new : List
     ℕ) (told : Bool) → IsCanonicalCore R source → IsTransformed source fields end → middle ≡ old
     → AppendsTransformed table source fields middle new told → AppendsEnd R table end old new told
@@ -54,7 +58,8 @@ transformed_appended R table source fields end old middle new true G T same h = 
   h.3 ∙ ap (λ (l : List ℕ). l ++ (45 ∷ 116 ∷ 45 ∷ folded source ++ h.0)) same,
 )
 
--- nothing was appended by the fields of an end (`before` is false), and then what is kept for the end itself, if `told`
+-- Nothing was appended by the fields of an end (`before` is false). If then what is kept for the end itself was
+-- appended (`told`), that is the canonical form of the end; if not, nothing was appended.
 pub kept_appended_after : (R : List EntryParts) (table : List (Option Kept)) (end old middle new : List ℕ) (before told
     : Bool) → IsEnd end → AppendsEnd R table end old middle before → before ≡ false
     → AppendsKept table end middle new told → AppendsEnd R table end old new told

@@ -1,4 +1,5 @@
--- Keywords that are read from a text, and the text of their normal form.
+-- For `keyword_ends.rt`: keywords to which subtags are added one by one spell these subtags, so they are what a text of
+-- them is read as; and subtags that are appended, each after a hyphen, are joined by hyphens.
 use Rattle.std.proofs.Common.{◌≡◌, ℕ, ◌<◌, true, List, [], ◌∷◌, ◌++◌, refl, sym, ap, ◌∙◌, subst, length}
 use Rattle.std.specs.Prelude.{flat_map}
 use Rattle.std.specs.List.{AllByRecursion, join_with_byte}

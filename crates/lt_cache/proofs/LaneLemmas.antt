@@ -1,4 +1,5 @@
--- The lanes of a short text.
+-- For `ShortText`, whose 32 bytes are handled at once: what is selected of a text, and whether two texts differ, byte
+-- by byte. A lane is the place of one of the bytes.
 use Rattle.std.proofs.Common.{◌≡◌, ◌≤◌, ◌<◌, ◌+◌, ◌*◌, ◌++◌, ℕ, Bool, true, false, not, cond, eqb, ltb, zero, suc, List}
 use Rattle.std.proofs.Common.{[], ◌∷◌, map, length, take, replicate, refl, ap, ap₂, ◌∙◌, arith}
 use Rattle.std.proofs.lemmas.Bool.{lt-ltb, eqb-true, eq-eqb, le-ltb}

@@ -1,4 +1,4 @@
--- What the crates above may use is `pub`; this crate alone uses the rest.
+-- What the crates above may use is `pub`; only this crate uses the rest.
 pub mod LaneLemmas
 pub mod PlaceLemmas
 mod EndLemmas

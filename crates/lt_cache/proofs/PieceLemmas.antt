@@ -1,4 +1,5 @@
--- The subtag that a piece of a text is.
+-- For `read_piece` and `key_after`: a piece of a text, between hyphens, is read as a subtag exactly if its lower case
+-- is one, and that is the subtag; what is no subtag is neither a key nor a type.
 use Rattle.std.proofs.Common.{◌≡◌, ℕ, true, false, List, [], ◌∷◌, None, refl, arith}
 use Rattle.std.specs.Prelude.{Option, Ok, Err}
 use Rattle.std.specs.List.{list_all}
@@ -16,7 +17,7 @@ use Rattle.lt_rewrite.specs.RisingKeys.{next_key}
 pub piece_read : (p s : List ℕ) → subtag_of p ≡ Ok s → s ≡ folded p
 piece_read p s h = grind (arith, nat_tests)
 
--- a piece whose lower case is of letters and digits alone is of letters and digits itself
+-- a piece whose lower case has only letters and digits has only letters and digits itself
 bytes_from_lower : (p : List ℕ) → list_all is_subtag_byte (folded p) ≡ true → list_all is_ascii_alphanumeric p ≡ true
 bytes_from_lower [] h = refl
 bytes_from_lower (b ∷ p) h = grind (arith, nat_tests, bytes_from_lower p)

@@ -1,4 +1,4 @@
--- Places that hold nothing, and those that were made.
+-- For `Recent`: a new cache has 8,192 places, all empty, which a contract sees even before they are made.
 use Rattle.std.proofs.Common.{◌≡◌, ◌<◌, ◌∷◌, ℕ, zero, suc, List, [], Option, None, length, replicate, refl, ap, arith}
 use Rattle.std.specs.List.{All}
 use Rattle.std.proofs.lemmas.List.Elements.{All-nil, All-cons}

@@ -1,4 +1,5 @@
--- An end that is canonical but for the case of its letters follows each canonical core as it is, in lower case.
+-- For the functions that append an end without reading the text as a tag: an end that is canonical but for the case of
+-- its letters follows each canonical core in lower case, and an end of keywords follows it as their normal form.
 use Rattle.std.proofs.Common.{◌≡◌, ℕ, ◌<◌, ◌≤◌, ◌+◌, true, false, List, [], ◌∷◌, ◌++◌, refl, sym, ap, ◌∙◌, subst}
 use Rattle.std.proofs.Common.{subst₂, length, arith, inl, inr, ◌⊎◌, ◌==◌, ◌&&◌, ◌||◌, None}
 use Rattle.std.specs.Prelude.{Result, Ok, Err, OnOk, is_err}
@@ -64,7 +65,7 @@ few_list text = omega (arith, length-map (pieces text) folded, length-pieces tex
 abbrev end_of : ℕ → List ℕ → List ℕ
 end_of s rest = 45 ∷ s ∷ 45 ∷ rest
 
--- one extension alone is in order: no step swaps it or drops it
+-- a list of one extension is in order: no step swaps it or drops it
 no_step : (e : ExtensionParts) (fs : List ExtensionParts) → ListStep false singleton_cmp (e ∷ []) fs → ⊥
 no_step e fs (by_swap before a b after s) = omega (arith, ap length s.there, length-append before (a ∷ b ∷ after))
 no_step e fs (by_drop before a between b after o s) = let bad : false ≡ true = o in cc
@@ -85,7 +86,7 @@ module _ (R : List EntryParts) (C : IsChecked R) where
   abbrev u_of : List (List ℕ) → ExtensionParts
   u_of ss = extension unicode ss
 
-  -- a `u` extension alone ends as that of `q`, the normal form of its parts, `p`
+  -- the steps within a list of one `u` extension end with the extension of `q`, the normal form of its parts, `p`
   u_ended : (ss : List (List ℕ)) (p q : UForm) → IsUnicode ss p → IsNormalForm UnicodeStep p q
       → extensions_end R C (u_of ss ∷ []) ≡ u_of (spell_u q) ∷ []
   u_ended ss p q found n =
@@ -148,11 +149,11 @@ module _ (R : List EntryParts) (C : IsChecked R) where
       ∙ ap (λ (l : List ℕ). 45 ∷ l) (after_first 117 rest))
       (unicode_text s rest (parts ss) (parts ss) is_u found (parts_rest ss r))
 
-  -- no extensions end as none
+  -- without extensions, the steps within extensions end without any
   x_ended : extensions_end R C [] ≡ []
   x_ended = rest_is_form (extensions_end_formed R C) [] (none_rests R)
 
-  -- the subtags of private use alone: `x` (120), and those after it
+  -- the subtags of private use without extensions: `x` (120), and those after it
   private_list : (ps : List (List ℕ)) → 0 < length ps → spell_rest [] ps ≡ (120 ∷ []) ∷ ps
   private_list [] n = absurd (omega arith)
   private_list (p ∷ ps) n = refl

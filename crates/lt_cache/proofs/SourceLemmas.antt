@@ -1,4 +1,6 @@
--- What a source of fields says of an end: the subtags of a source and fields, and the text of a t extension.
+-- The proof of `fields_are_shared`: what follows one canonical source with fields, in the canonical text of a `t`
+-- extension, follows every canonical source with the same fields. So the cache may keep it for the fields. A `t`
+-- extension has a source, which is a langtag, and then fields: `it` and `-m0-names`.
 use Rattle.std.proofs.Common.{◌≡◌, ◌≢◌, ℕ, ◌≤◌, ◌==◌, true, not, List, [], ◌∷◌, ◌++◌, length, refl, sym, ap, ◌∙◌, subst}
 use Rattle.std.proofs.Common.{arith, false, Some, IfSome, flat_map, ◌-◌, take, drop, None}
 use Rattle.std.specs.List.{AllByRecursion, join_with_byte, list_all}
@@ -112,7 +114,7 @@ fields_some K none = omega (
   ap length (fields_list K ∙ ap (flat_map spell_field) none),
 )
 
--- the text of a `t` extension alone: `t` (116), the source in lower case, and the fields, after hyphens (45)
+-- the text of one `t` extension: `t` (116), the source in lower case, and the fields, after hyphens (45)
 extension_text : (source : List ℕ) (c : CoreParts) (fs : List FieldParts) → HasTag source (core_alone c) → fs ≢ []
     → join_with_byte 45 (spell_rest (t_of c fs ∷ []) []) ≡ 116 ∷ 45 ∷ (folded source ++ 45 ∷ join_with_byte 45 (flat_map spell_field fs))
 extension_text source c [] read some = absurd (some refl)
@@ -149,12 +151,13 @@ module _ (R : List EntryParts) (C : IsChecked R) where
       let none : TForm = record { source = None; fields = fs } in
       star_keeps (λ (p : TForm). AreFields p.fields) fields_kept ((t_formed R C.passes.core_conditions).reached none) A
 
-  -- one extension alone is in order: no step swaps it or drops it
+  -- a list of one extension is in order: no step swaps it or drops it
   no_step : (e : ExtensionParts) (fs : List ExtensionParts) → ListStep false singleton_cmp (e ∷ []) fs → ⊥
   no_step e fs (by_swap before a b after s) = omega (arith, ap length s.there, length-append before (a ∷ b ∷ after))
   no_step e fs (by_drop before a between b after o s) = let bad : false ≡ true = o in cc
 
-  -- a `t` extension alone with a canonical source ends with the same source and the normal form of its fields
+  -- the steps within a list of one `t` extension with a canonical source end with the same source and the normal form
+  -- of the fields
   extension_ended : {source : List ℕ} (G : IsCanonicalCore R source) (fs : List FieldParts) → AreFields fs
       → extensions_end R C (t_of G.core fs ∷ []) ≡ t_of G.core (fields_end fs) ∷ []
   extension_ended G fs A =

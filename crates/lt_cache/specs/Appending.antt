@@ -1,4 +1,5 @@
--- What a cache appends to an answer for the front of a text and for its end. No public contract cites this.
+-- What a cache appends to an answer for the front of a text and for its end. The end goes from the hyphen before the
+-- first one-character subtag on, and the front is what is before it. No public contract cites this.
 use Rattle.std.specs.Prelude.{ℕ, ◌≡◌, ◌+◌, Bool, true, false, List, [], ◌∷◌, ◌++◌, length, Option}
 use Rattle.std.specs.Char.{to_ascii_lowercase}
 use Rattle.lt_subtag.specs.Bytes.{folded}
@@ -37,8 +38,8 @@ abbrev pub AppendsEnd : List EntryParts → List (Option Kept) → (end old new 
 AppendsEnd R table end old new true = (rest : List ℕ) × (AreEnds R table → IsEndText R end rest) × (new ≡ old ++ rest)
 AppendsEnd R table end old new false = new ≡ old
 
--- from the place `from` on, the texts are what follows a canonical core (`front`) with this end in its canonical text,
--- before which they may have others
+-- the texts end with the canonical text of a canonical core, `front`, with this end; what follows the core in that text
+-- begins at the place `from`
 pub record EndStands (R : List EntryParts) (end : List ℕ) (from : ℕ) (texts : List ℕ) : Type 0 where
   pub front : List ℕ
   pub core : IsCanonicalCore R front

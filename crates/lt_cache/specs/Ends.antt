@@ -40,7 +40,7 @@ pub record IsTransformed (source fields end : List ℕ) : Type 0 where
   pub whole : end ≡ 45 ∷ singleton ∷ 45 ∷ (source ++ fields)
   pub is_fields : IsFields fields
 
--- the text is read as a core alone, which is canonical (RFC 5646, 2.1 and 4.5)
+-- the text is read as a tag of only a core, and that tag is canonical (RFC 5646, 2.1 and 4.5)
 pub record IsCanonicalCore (R : List EntryParts) (front : List ℕ) : Type 0 where
   pub core : CoreParts
   pub read : HasTag front (core_alone core)
@@ -89,13 +89,13 @@ FieldsAreShared R =
     IsTransformed source fields end → IsCanonicalTextOf R (front ++ end) canonical →
     TellsFields R front source fields canonical
 
--- an entry of the cache is empty or right by `R`: its line is an end, and its answer what follows a core with it, or
--- fields, and what follows a source with them
+-- a place of the cache is empty, or right by `R`: if its line is an end, its answer is what follows a core with that
+-- end, and if its line is fields, its answer is what follows a source with those fields
 abbrev pub IsKeptEnd : List EntryParts → Option Kept → Type 0
 IsKeptEnd R None = Unit {0}
 IsKeptEnd R (Some kept) =
     (IsEnd kept.line → IsEndText R kept.line kept.answer) × (IsFields kept.line → IsFieldsText R kept.line kept.answer)
 
--- each entry of the cache of ends is empty or right
+-- each place of the cache of ends is empty or right
 pub record AreEnds (R : List EntryParts) (table : List (Option Kept)) : Type 0 where
   pub each : All (IsKeptEnd R) table

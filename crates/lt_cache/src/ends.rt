@@ -18,8 +18,9 @@ pub(crate) fn read_piece(piece: &[u8]) -> Option<Subtag>
     Subtag::read(piece).ok()
 }
 
-/// The last key after a further piece, `last` being the one before it: the piece if it is a key after `last`, or `last`
-/// if the piece is a type of it other than `true`. None if the piece is neither.
+/// The last key once one more piece is read; `last` is the last key before that, if there is one. It is the piece if
+/// that is a key after `last` in order, and `last` if the piece is a type of that key, but not `true`. None if the
+/// piece is neither.
 #[tactic(auto, using(crate::proofs::PieceLemmas::next_none))]
 fn key_after(last: Option<Subtag>, piece: &[u8]) -> Option<Subtag>
     ensures { result ≡ rising.next_key last (folded piece.now) }
@@ -27,8 +28,9 @@ fn key_after(last: Option<Subtag>, piece: &[u8]) -> Option<Subtag>
     next_key(last, read_piece(piece)?)
 }
 
-/// Whether a text consists of keywords whose keys rise (`None`: no key is before the first), none of which has the type
-/// `true`: so they are in canonical form but for their case (RFC 5646, 4.5; RFC 6067, 2.1.1).
+/// Whether a text consists of keywords whose keys rise, and none of which has the type `true`. Such keywords are in
+/// canonical form but for their case (RFC 5646, 4.5; RFC 6067, 2.1.1). The `None` of the clause says that no key is
+/// before the first.
 fn keys_rise(text: &[u8]) -> bool
     ensures { result ≡ rising.keys_rise None (list_of text.now) }
 {

@@ -1,5 +1,5 @@
 //! Ends of texts that are a `u` extension of keywords in any order. A keyword is a key and its types, such as
-//! `co-phonebk`. Clauses say only what Some and true mean: another end is read as part of a tag.
+//! `co-phonebk`. Clauses state only what Some and true mean: after None or false the end is read as part of a tag.
 ghost use Rattle.std.specs.Prelude.{◌≡◌, ◌++◌, ◌∷◌, IfOk, IfSome, IsTrue, OnOk, flat_map};
 ghost use Rattle.lt_tag.specs.Lists.{list_of};
 ghost use Rattle.lt_tag.specs.Extensions as extensions;
@@ -20,9 +20,9 @@ fn is_long(subtag: &Subtag) -> bool
     3 <= subtag.bytes().len()
 }
 
-/// Adds a subtag to keywords: a key begins a further one, and a type goes to the last one. False if the subtag is neither a
-/// key nor a type, or if it is a type without a key before it. Then, and where memory runs out, the keywords are of no
-/// further use.
+/// Adds a subtag to keywords: a key begins a new keyword, and a type goes to the last one. False if the subtag is
+/// neither a key nor a type, or if it is a type and there is no keyword. After that, and if memory runs out, the
+/// keywords are not to be used: the last one may be missing.
 fn add_subtag(
     alloc: Global,
     keywords: &mut Vec<Keyword>,
@@ -48,7 +48,9 @@ fn add_subtag(
     Ok(true)
 }
 
-/// The keywords that a text consists of, without the singleton before them. None if it is no list of keywords.
+/// The keywords that a text consists of, for example `co-phonebk-kn`, which has no `u` before them. None if it is no
+/// list of keywords: a piece is no subtag, or neither a key nor a type, or the first one is no key. Refused only if
+/// memory runs out.
 fn read_keywords(alloc: Global, text: &[u8]) -> Result<Option<Vec<Keyword>>, OutOfMemory>
     ensures { IfOk result (λ found. IfSome found (λ keywords. IsUnicode (list_of text.now) (of_keywords keywords.items))) }
 {
@@ -98,7 +100,8 @@ fn append_keywords(keywords: &[Keyword], texts: &mut Vec<u8>) -> Result<(), OutO
     Ok(())
 }
 
-/// The canonical form of an end that is a `u` extension of keywords, such as `-u-kn` of `-u-kn-true`. None of any other end.
+/// The canonical form of an end that is a `u` extension of keywords: `-u-kn` for `-u-kn-true`. None for any other end,
+/// for example one with attributes. Refused only if memory runs out.
 pub(crate) fn keyword_end(alloc: Global, end: &[u8]) -> Result<Option<Vec<u8>>, OutOfMemory>
     ensures { IfOk result (λ found. IfSome found (λ text. IsKeywordEnd end.now text.items)) }
 {

@@ -6,8 +6,8 @@
 //! Words of this crate: the *end* of a text goes from the hyphen before its first one-character subtag on, and the
 //! *front* is what is before it: `-u-nu-latn` and `ar`. A subtag *stays* if steps leave it as it is; a front of subtags
 //! that stay is a canonical core. An end is *settled* if it is canonical but for its letter case. A `t` extension has a
-//! *source*, a langtag, and then *fields*: `it` and `-m0-names`. A table of answers has *places*, each empty or with a
-//! *line*, the text that was asked, and its answer.
+//! *source*, a langtag, and then *fields*: `it` and `-m0-names`. A table of answers has *places*. A place is empty, or
+//! has a *line*, which is the text that was asked for, and its answer.
 #![tactic(auto)]
 
 mod ends;

@@ -1,5 +1,5 @@
-//! A table of fixed size with the answers that were given lately: lines repeat, and an answer that is found is
-//! not worked out again. It holds what was put into it for just these bytes, or nothing.
+//! A table of fixed size with the answers that were given lately: lines repeat, and an answer that is found is not
+//! worked out again. What the table gives for a line was put into it for a line of just these bytes.
 ghost use Rattle.std.specs.Prelude.{◌≡◌, ◌≤◌, length, take, IfSome, IfOk};
 ghost use Rattle.lt_cache.specs.Places.{blank_places};
 ghost use Rattle.lt_cache.specs.Recent.{Holds, IsBlank, PutsIn};
@@ -104,8 +104,9 @@ impl Recent {
         }
     }
 
-    /// The answer that was put for the first `count` bytes of `text`, or None if the table doesn't hold it. `count` must
-    /// be at most the length of `text`. What follows these bytes is for speed alone, as 32 bytes are taken at once.
+    /// The answer that was put for the first `count` bytes of `text`, or None if the table doesn't hold one. `count`
+    /// must be at most the length of `text`. The bytes behind these only help speed: if `text` has 32, they are taken
+    /// at once.
     pub fn find(&self, text: &[u8], count: usize) -> Option<Found<'_>>
         requires { count ≤ length text.now }
         ensures { IfSome result (λ found. Holds self.now (take count text.now) found.answer.now found.refused) }

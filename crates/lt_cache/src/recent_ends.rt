@@ -39,7 +39,7 @@ impl Model for RecentEnds {
 }
 
 /// Whether a text is a core whose subtags stay as they are. `texts` is used as room for it, and left as it was. False
-/// where memory runs out.
+/// also if memory runs out.
 #[inline(always)]
 fn is_staying<L: Lookup>(checked: &Checked<L>, text: &[u8], texts: &mut Vec<u8>) -> bool
     ensures core { IsTrue result → IsCanonicalCore (L.listed checked.now) text.now }
@@ -98,8 +98,8 @@ impl RecentEnds {
         }
     }
 
-    /// Appends what follows a core in a canonical text, if that is kept for `end`. Tells whether it did; else it appends
-    /// nothing.
+    /// Appends what follows a core with `end` in a canonical text, if that is kept. Tells whether it was; if not,
+    /// nothing is appended.
     #[inline(always)]
     fn append_kept(&self, end: &[u8], texts: &mut Vec<u8>) -> Result<bool, OutOfMemory>
         ensures { IfOk result (AppendsKept self.now end.now texts.old.items texts.new.items) }
@@ -114,8 +114,8 @@ impl RecentEnds {
     }
 
     /// Appends the canonical `t` extension of a source that stays as it is, and of fields, if the table has the answer
-    /// for these fields: for `IT` and `-m0-names` it appends `-t-it` and what is kept for `-m0-names`. Tells whether it
-    /// did; else it appends nothing.
+    /// for these fields: for `IT` and `-m0-names` it appends `-t-it` and what is kept for `-m0-names`. Tells whether
+    /// the table had it; if not, nothing is appended.
     #[inline(always)]
     fn append_transformed(
         &self,
@@ -172,9 +172,10 @@ impl RecentEnds {
         Ok(self.append_kept(end, texts)?)
     }
 
-    /// Keeps what `texts` have from the place `from` on, for `end`. Of a `t` extension whose source stays it keeps what
-    /// follows `-t-`, which has 3 bytes, and the source, for the fields. What `texts` have there must be what follows a
-    /// canonical core with this end in its canonical text. `texts` is left as it was.
+    /// Keeps what `texts` have from the place `from` on, for `end`. If that is a `t` extension whose source stays as it
+    /// is, only what follows `-t-` (3 bytes) and the source is kept, and it is kept for the fields. What `texts` have
+    /// from `from` on must be what follows a canonical core with this end in its canonical text. `texts` is left as it
+    /// was.
     fn keep<L: Lookup>(
         &mut self,
         checked: &Checked<L>,
@@ -197,9 +198,9 @@ impl RecentEnds {
         }
     }
 
-    /// Appends the canonical text of `text`, and keeps, for `end`, what follows the first `count` bytes of it. `text` must be
-    /// a canonical core and then `end`, which begins with a hyphen, one other byte and a hyphen. `count` must be how many
-    /// bytes that core has in conventional case. It is refused as `append_canonical_text` refuses.
+    /// Appends the canonical text of `text`, and keeps what follows the first `count` bytes of that for `end`. `text`
+    /// must be a canonical core and then `end`, which begins with a hyphen, one other byte and a hyphen. `count` must
+    /// be how many bytes that core has in conventional case. It is refused as `append_canonical_text` refuses.
     #[tactic(auto, using(crate::proofs::KeptEnds::end_stands))]
     fn append_new<L: Lookup>(
         &mut self,

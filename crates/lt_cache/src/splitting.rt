@@ -12,9 +12,9 @@ ghost use Rattle.lt_cache.specs.Appending.{FollowsSingleton, BeginsWithSeparator
 pub(crate) const LONGEST_FRONT: usize = 12;
 
 /// What is before the first one-character subtag, and the end that begins with the hyphen before it: `ar` and
-/// `-u-nu-latn` of `ar-u-nu-latn`. None if more than `LONGEST_FRONT` bytes are before any such subtag, if it is the last
-/// subtag, or if the text has more than `longest` bytes. `longest` must be at most the length of the longest text that is
-/// read, 1,024 bytes.
+/// `-u-nu-latn` of `ar-u-nu-latn`. None if no such subtag has 2 to `LONGEST_FRONT` bytes before its hyphen and another
+/// subtag behind it, or if the text has more than `longest` bytes. `longest` must be at most the length of the longest
+/// text that is read, 1,024 bytes.
 #[inline(always)]
 pub(crate) fn split_end(text: &[u8], longest: usize) -> Option<(&[u8], &[u8])>
     requires { longest ≤ longest_text }

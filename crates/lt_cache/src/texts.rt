@@ -52,9 +52,10 @@ pub(crate) fn append_lower(text: &[u8], texts: &mut Vec<u8>) -> Result<(), OutOf
     Ok(())
 }
 
-/// Appends the canonical form of an end that is keywords or private use. Tells whether it did; of any other end, or
-/// where memory runs out, it appends nothing. Memory of its own is taken only for keywords that don't stay as they are.
-/// An end asks nothing of a registry, so what is appended is right by any that passes the check.
+/// Appends the canonical form of an end that is keywords or private use, and gives true. For any other end, or if
+/// memory runs out, it gives false and appends nothing. Memory of its own is taken only for keywords that don't stay as
+/// they are. Such an end asks nothing of a registry, so what is appended is right by every registry that passes the
+/// check.
 #[tactic(auto, using(crate::proofs::SettledEnds::settled_appends))]
 fn append_end(alloc: Global, end: &[u8], texts: &mut Vec<u8>) -> bool
     ensures appended { IsTrue result → AppendsEndText end.now texts.old.items texts.new.items }
@@ -96,8 +97,8 @@ fn append_settled_text<L: Lookup>(
     true
 }
 
-/// Appends the canonical text of a text whose subtags don't all stay as they are. It is refused as
-/// [`append_canonical_text`] refuses. It is not inlined, so that the other texts pay nothing for it.
+/// Appends the canonical text of any text; it is meant for those whose subtags don't all stay as they are. It is
+/// refused as [`append_canonical_text`] refuses. It is not inlined, so that the other texts pay nothing for it.
 #[inline(never)]
 pub(crate) fn append_other_text<L: Lookup>(
     alloc: Global,

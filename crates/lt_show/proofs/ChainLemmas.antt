@@ -1,4 +1,5 @@
--- Members that were appended one after another.
+-- For the functions that append JSON objects: members that were appended to a text one after another are all behind it,
+-- as one list. A further member is one that is not the first of its object: a comma (44) is before it.
 use Rattle.std.proofs.Common.{◌≡◌, ℕ, List, [], ◌∷◌, ◌++◌, sym, ◌∙◌, ap, append-nil, append_assoc}
 use Rattle.std.proofs.lemmas.List.Concat.{flat_map-append}
 use Rattle.lt_show.specs.Values.{Member, member_text, more_members, object}

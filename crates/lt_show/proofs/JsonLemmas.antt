@@ -1,4 +1,4 @@
--- The object of a row is its beginning and its end, as they are appended.
+-- For `append_row`: the object of a row is its beginning and its end, which are appended one after the other.
 use Rattle.std.proofs.Common.{◌≡◌, ◌++◌, ℕ, List, append-nil, append_assoc}
 use Rattle.lt_jar.specs.Records.{Field}
 use Rattle.lt_show.specs.Json.{row_end, row_front, row_value}

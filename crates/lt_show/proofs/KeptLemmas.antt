@@ -1,5 +1,6 @@
--- The loop of `read_draft`, which keeps the records that a reader lends one by one, and what `read_records` makes of
--- them.
+-- The loop of `read_draft` keeps the records that a reader lends one by one, and `read_records` answers by what was
+-- kept as by the whole file. A draft has the records so far, each with the fields that `kept_fields` leaves; `lacks`
+-- says that memory ran out for one.
 use Rattle.std.proofs.Common.{◌≡◌, ℕ, true, false, List, [], ◌∷◌, ◌++◌, ap, sym, subst, ◌∙◌, Option, Ok, Err}
 use Rattle.std.proofs.lemmas.List.{map-append}
 use Rattle.lt_jar.specs.Records.{Field}
@@ -57,7 +58,7 @@ unfolding ReadsDraft
 kept_stops remaining first old new before now after d fault so advances = read_stops remaining first old new before now
     after (HasKept d) _ _ fault so advances (λ bytes reads is. is) (λ is. is)
 
--- what was kept of a file gives these entries, and so do its records
+-- if what was kept of a file gives these entries, so do its records, and `read_records` may answer both
 pub read_kept : {R : Type 0} (remaining : R → Option (List ℕ)) (before after : Device R) (d : Draft) (es : List
     EntryParts) → ReadsDraft remaining before after (Ok d) → d.lacks ≡ false → HasEntries d.records.items es
     → ReadsRecords remaining before after (Ok (es, d.records.items))
@@ -76,7 +77,7 @@ read_kept remaining before after d es r full has =
       rises = r.rises;
     }
 
--- what was kept of a file is refused with this fault, and so are its records
+-- if what was kept of a file is refused with this fault, so are its records, and `read_records` may answer that
 pub read_refused : {R : Type 0} (remaining : R → Option (List ℕ)) (before after : Device R) (d : Draft) (fault
     : RecordFault) → ReadsDraft remaining before after (Ok d) → d.lacks ≡ false → IsRecordRefusal d.records.items fault
     → ReadsRecords remaining before after (Err (faults.Registry (registry_faults.Record fault)))

@@ -1,4 +1,5 @@
--- Lemmas on the kinds of the subtags of extensions.
+-- For `append_unicode` and `append_transform`: the subtags of a `u` or `t` extension have the kinds of the parts into
+-- which it can be split. Those of a `t` extension that can't be split are all ExtensionSubtag.
 use Rattle.std.proofs.Common.{◌≡◌, refl}
 use Rattle.std.specs.Prelude.{Option, Some, None}
 use Rattle.lt_tag.specs.Parts.{ExtensionParts, UForm, TForm}

@@ -1,7 +1,7 @@
 -- Lemmas on what is read and shown.
 pub mod ValueLemmas
 pub mod ChainLemmas
--- What this crate alone uses.
+-- What only this crate uses.
 mod StringLemmas
 mod PlaceLemmas
 mod KindLemmas

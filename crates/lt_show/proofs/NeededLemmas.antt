@@ -28,7 +28,7 @@ module _ (p : Field → Bool) (kept : (f : Field) → p f ≡ true → is_kept f
   not_passed : (f : Field) → is_kept f ≡ false → p f ≡ false
   not_passed f none = false_from_ne_true (p f) (λ passed. let bad : false ≡ true = sym none ∙ kept f passed in cc)
 
-  -- those that pass are the same of the kept ones
+  -- the same fields pass among the kept ones
   filter_kept : (r : List Field) → filter p (kept_fields r) ≡ filter p r
   filter_kept [] = refl
   filter_kept (f ∷ r) = elim (cases_Bool (is_kept f)) [
@@ -44,7 +44,7 @@ module _ (p : Field → Bool) (kept : (f : Field) → p f ≡ true → is_kept f
     | inr is_out ↦ rw (is_out, not_passed f is_out) (find_kept r)
   ]
 
-  -- as many of the kept fields pass
+  -- as many fields pass among the kept ones
   count_kept : (r : List Field) → count_by p (kept_fields r) ≡ count_by p r
   count_kept r = sym (length-filter p (kept_fields r)) ∙ ap length (filter_kept r) ∙ length-filter p r
 
@@ -52,6 +52,7 @@ module _ (p : Field → Bool) (kept : (f : Field) → p f ≡ true → is_kept f
 kept_of : (f : Field) → is_of_entry f ≡ true → is_kept f ≡ true
 kept_of f is = or_right (is_shown f.0) (is_of_entry f) is
 
+-- so are the fields with each of the names by which an entry is made or the header is known
 type_kept : (f : Field) → is_called type_name f ≡ true → is_kept f ≡ true
 type_kept f is = kept_of f (search (or_left, or_right))
 
@@ -72,7 +73,8 @@ date_kept f is = kept_of f (search (or_left, or_right))
 
 -- ---- a record
 
--- two records are alike in all that makes an entry of one
+-- two records are alike in all that makes an entry of one: in the first field of each of these names, in all their
+-- Prefixes, and in whether a field is repeated
 record Alike (r s : List Field) : Type 0 where
   types : body type_name r ≡ body type_name s
   subtags : body subtag_name r ≡ body subtag_name s
@@ -87,7 +89,7 @@ body_kept : (name : List ℕ) → ((f : Field) → is_called name f ≡ true →
     → body name (kept_fields r) ≡ body name r
 body_kept name kept r = rw (find_kept (is_called name) kept r) refl
 
--- whether a field of a name is repeated is the same
+-- a field of a name is repeated among the kept fields just if it is in the record, as all fields of the name are kept
 repeated_kept : (name : List ℕ) → ((f : Field) → is_called name f ≡ true → is_kept f ≡ true) → (r : List Field)
     → is_repeated name (kept_fields r) ≡ is_repeated name r
 repeated_kept name kept r = rw (count_kept (is_called name) kept r) refl
@@ -123,6 +125,7 @@ turned r s a = record {
 
 -- `r` and `s` are alike
 module _ (r s : List Field) (a : Alike r s) where
+  -- they have the same name and the same prefixes, whatever their kind, and both are the header or neither is
   names : (k : Kind) → body (name_field k) s ≡ body (name_field k) r
   names k = elim (is_whole_kind k) as (λ w. body (if w then tag_name else subtag_name) s
       ≡ body (if w then tag_name else subtag_name) r) [ true ↦ sym a.tags | false ↦ sym a.subtags ]
@@ -173,11 +176,12 @@ entries_from number (r ∷ records) es (inr h) = inr (
   (h.1.0, h.1.1, h.1.2, entry_of (kept_fields r) r (kept_alike r) number h.1.0 h.1.3, entries_from (number + 1) records h.1.1 h.1.4),
 )
 
--- the same of all records, which are counted from 1
+-- the entries of what is kept of all records, which are counted from 1, are those of the records
 pub entries_kept : (records : List (List Field)) (es : List EntryParts) → HasEntries (map kept_fields records) es → HasEntries records es
 entries_kept records es h = entries_from 1 records es h
 
--- a record among those of which fields are left out, and the one that it was
+-- `here` is a record among those of which fields are left out: the record `one` that it was, and those before and after
+-- that
 record Was (records before : List (List Field)) (here : List Field) (after : List (List Field)) : Type 0 where
   front : List (List Field)
   one : List Field
@@ -186,7 +190,7 @@ record Was (records before : List (List Field)) (here : List Field) (after : Lis
   fronts : map kept_fields front ≡ before
   is : kept_fields one ≡ here
 
--- each record among those of which fields are left out was such a record
+-- each record among those of which fields are left out was one of `records`
 was : (records before : List (List Field)) (here : List Field) (after : List (List Field))
     → map kept_fields records ≡ before ++ here ∷ after → Was records before here after
 was [] [] here after e = let bad = e in cc
@@ -205,7 +209,7 @@ was (r ∷ records) (b ∷ before) here after e =
       is = w.is;
     }
 
--- as many records come before it
+-- as many records come before it as before the one that it was
 before_same : (records before : List (List Field)) (here : List Field) (after : List (List Field)) (w : Was records
     before here after) → length before ≡ length w.front
 before_same records before here after w = sym (ap length w.fronts) ∙ length-map w.front kept_fields
@@ -250,7 +254,7 @@ first_was records kind number f = record {
   earliest = λ other at. f.earliest other (fault_is records other number at);
 }
 
--- a record before which none is at fault is the same
+-- a record that has no record at fault before it has none among those with all fields either
 reached_was : (records : List (List Field)) (number : ℕ) → IsRecordReached (map kept_fields records) number → IsRecordReached records number
 reached_was records number f =
     let w = was records f.before f.here f.after f.there in

@@ -1,4 +1,5 @@
--- Lemmas on where the parts of a tag are in its text.
+-- For the loop of `place`, which cuts a text at its hyphens and gives each piece the next kind: which parts it has at
+-- each turn (`Reached`), and that these are all parts at the end.
 use Rattle.std.proofs.Common.{◌≡◌, ℕ, ◌≤◌, ◌<◌, ◌+◌, ◌-◌, ◌==◌, true, false, List, [], ◌∷◌, ◌++◌, length, take, drop}
 use Rattle.std.proofs.Common.{refl, sym, ap, ◌∙◌, arith, append_assoc, length-drop, get_or}
 use Rattle.std.specs.Prelude.{Option, Some, None, position, is_some, unwrap_or}
@@ -25,7 +26,7 @@ none_placed start [] = refl
 none_placed start (k ∷ ks) = refl
 
 -- if the first hyphen from `start` on is `h` bytes further, the parts from `start` on are the one up to the hyphen and
--- those after it; `i` is the index of the next kind
+-- those after it; `i` is the index of the next kind, and `d` is only the default of `get_or`
 placed_cut : (kinds : List PartKind) (text : List ℕ) (i start h : ℕ) (d : PartKind) → i < length kinds → hyphen (drop start text) ≡ Some h
     → placed start (drop i kinds) (pieces (drop start text)) ≡ part (get_or kinds i d) start h
     ∷ placed (start + (h + 1)) (drop (i + 1) kinds) (pieces (drop (start + (h + 1)) text))
@@ -44,7 +45,8 @@ placed_cut kinds text i start h d lt found =
     ∙ ap (λ n. part k start h ∷ placed n ks (pieces (drop (h + 1) rest))) sum
     ∙ ap (λ (x : List ℕ). part k start h ∷ placed (start + (h + 1)) ks (pieces x)) (drop-drop (h + 1) start text)
 
--- if the text has no hyphen from `start` on, what is left of it is one part
+-- if the text has no hyphen from `start` on, the rest of the text is one part, of the kind at index `i`; `d` is only
+-- the default of `get_or`
 placed_last : (kinds : List PartKind) (text : List ℕ) (i start : ℕ) (d : PartKind) → i < length kinds → hyphen (drop start text) ≡ None
     → placed start (drop i kinds) (pieces (drop start text)) ≡ part (get_or kinds i d) start (length (drop start text)) ∷ []
 placed_last kinds text i start d lt found =
@@ -55,14 +57,14 @@ placed_last kinds text i start d lt found =
     ∙ ap (λ (x : List (List ℕ)). placed start (k ∷ ks) x) (pieces_one rest found)
     ∙ ap (λ (x : List Part). part k start (length rest) ∷ x) (none_placed (start + length rest + 1) ks)
 
--- `parts` are those of the first `i` kinds, and the text after them begins at `start`: with the parts of what is left,
--- they are all
+-- `parts` are those of the first `i` kinds, and the text behind them begins at `start`: with the parts of that text
+-- they are all parts
 pub record Reached (kinds : List PartKind) (text : List ℕ) (i start : ℕ) (parts : List Part) : Type 0 where
   pub within : start ≤ length text
   pub all : parts ++ placed start (drop i kinds) (pieces (drop start text)) ≡ placed 0 kinds (pieces text)
 
--- one part was placed: `end` is the next hyphen's index in what is left, `size` the part's length, and `more` the parts
--- with it
+-- one part was placed, behind the `parts` before it: `end` is the next hyphen's index in the rest of the text, `size`
+-- the part's length, and `more` the parts with it; `kind` is only the default of `get_or`
 pub record Places (kinds : List PartKind) (text : List ℕ) (i start : ℕ) (parts : List Part) (end : Option ℕ) (size : ℕ)
     (more : List Part) : Type 0 where
   pub kind : PartKind
@@ -72,7 +74,8 @@ pub record Places (kinds : List PartKind) (text : List ℕ) (i start : ℕ) (par
   pub is_size : size ≡ unwrap_or end (length (take (length text - start) (drop start text)))
   pub pushed : more ≡ parts ++ part (get_or kinds i kind) start size ∷ []
 
--- if a hyphen ends the part, what is left begins after it
+-- if a hyphen ends the part, the next part begins behind that hyphen, and the parts so far with those from there are
+-- all
 pub reached_next : (kinds : List PartKind) (text : List ℕ) (i start : ℕ) (parts : List Part) (end : Option ℕ) (size
     : ℕ) (more : List Part) → Places kinds text i start parts end size more → is_some end ≡ true
     → Reached kinds text (i + 1) (start + (size + 1)) more

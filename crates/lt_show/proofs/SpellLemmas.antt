@@ -1,4 +1,5 @@
--- The parts of a tag spell its text: there are as many as it has pieces, and each is one of them.
+-- The parts of a tag spell its text, as the contract of `parts` says: there are as many as the text has pieces between
+-- its hyphens, and what each part cuts out of the text is one of the pieces.
 use Rattle.std.proofs.Common.{◌≡◌, ℕ, ◌<◌, ◌+◌, ◌==◌, List, [], ◌∷◌, ◌++◌, length, take, drop, suc, refl, sym, ap, ◌∙◌}
 use Rattle.std.proofs.Common.{arith, append_assoc, length-append}
 use Rattle.std.specs.Prelude.{Bool, true, false, cond, Option, Some, None, map, flat_map}
@@ -39,7 +40,7 @@ flat_maps f g (x ∷ xs) h = omega (arith, length-append (f x) (flat_map f xs), 
 each_count : (kind : PartKind) (ss : List (List ℕ)) → length (each kind ss) ≡ length ss
 each_count kind ss = length-map ss (λ _. kind)
 
--- with a kind in front there is one more
+-- one kind for each subtag, and one kind in front of them, are one more than the subtags
 one_more : (kind first : PartKind) (ss : List (List ℕ)) → length (first ∷ each kind ss) ≡ suc (length ss)
 one_more kind first ss = ap suc (each_count kind ss)
 

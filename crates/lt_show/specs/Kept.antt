@@ -1,5 +1,5 @@
--- The records of a registry that are kept while it is read. A draft has them so far, and `lacks` tells whether memory
--- ran out for one. No public contract cites this.
+-- The records of a registry that are kept while it is read. A draft has the records so far, and its `lacks` tells
+-- whether memory ran out for one. No public contract cites this.
 use Rattle.std.specs.Prelude.{◌≡◌, ℕ, Bool, true, false, List, [], ◌∷◌, ◌++◌, Option, Result, Ok, Err, map}
 use Rattle.lt_jar.specs.Records.{Field}
 use Rattle.lt_jar.specs.Sources.{Advances, record_in}

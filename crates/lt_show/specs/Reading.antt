@@ -14,7 +14,7 @@ abbrev pub RecordsReading : Type 0
 RecordsReading = Result (List EntryParts × List (List Field)) RecordsFault
 
 -- What is true of an answer after `reads` reads of a device that gave `bytes`. Either the bytes have records, of which
--- these are the entries and the fields that are kept; or they are refused as where the entries are read alone; or
+-- these are the entries and the fields that are kept; or the bytes are refused as when only the entries are read; or
 -- memory ran out. `remaining` is what a reader has left, where that is known.
 abbrev pub AnswersWith : {R : Type 0} → (R → Option (List ℕ)) → RecordsReading → (before after : Device R)
     → List ℕ → ℕ → Type 0

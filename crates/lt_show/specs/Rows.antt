@@ -1,4 +1,5 @@
--- The rows that `show` prints for a tag: one for each of its parts.
+-- The rows that `show` prints for a tag: one for the whole tag if that is registered as redundant, and one for each
+-- part.
 use Rattle.std.specs.Prelude.{ℕ, ◌+◌, List, [], ◌∷◌, ◌++◌, length, take, drop, Option, Some, None}
 use Rattle.lt_tag.specs.Parts.{TagForm, Grandfathered}
 use Rattle.lt_tag.specs.Texts.{text_of}
@@ -33,7 +34,7 @@ whole_by text (Some e) =
     record { place = 1; subject = subjects.Whole; start = 0; length = length text; listing = listings.Record e.number }
     ∷ []
 
--- the row of a whole tag, if a record registers it; a grandfathered tag has that of its one part alone (RFC 5646,
+-- the row of a whole tag, if a record registers it; a grandfathered tag has only the row of its one part (RFC 5646,
 -- 2.2.8)
 abbrev pub whole_rows : List EntryParts → TagForm → List Row
 whole_rows R (Grandfathered number) = []

@@ -43,14 +43,14 @@ widths_of text rows = record {
   text = widest (text_in text) rows;
 }
 
--- what is printed of what a registry has for a part
+-- what is printed for what a registry has for a part
 abbrev pub listing_text : Listing → List ℕ
 listing_text listings.Unlisted = []
 listing_text listings.Unregistered = codes "not registered"
 listing_text (listings.Record number) = codes "record " ++ decimal number
 
--- the end of a row's line: its text, `cell`, in a column of this width, and what the registry has for it; or the text
--- alone where no record registers such parts
+-- the end of a row's line: its text, `cell`, in a column of this width, and what the registry has for it; only the text
+-- if no registry registers parts of its kind
 abbrev pub last_cells : ℕ → (cell : List ℕ) → Listing → List ℕ
 last_cells width cell listings.Unlisted = cell
 last_cells width cell listing = padded width cell ++ listing_text listing

@@ -5,8 +5,8 @@ ghost use Rattle.lt_show.specs.Fields as spec;
 
 use lt_jar::{JarField, Record};
 
-/// The fields of the record of a number in a file. Records are counted from 1, with the header counted too. There are
-/// no fields where there is no such record, as for 0.
+/// The fields of the record with this number in a file. Records are counted from 1, with the header counted too. If
+/// there is no such record, as for 0, there are no fields.
 pub fn fields_of(records: &[Record], number: u32) -> &[JarField]
     ensures { result.now ≡ spec.fields_of records.now number }
 {

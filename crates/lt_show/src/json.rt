@@ -94,8 +94,8 @@ fn append_front(objects: &mut Vec<u8>, text: &[u8], row: &Row) -> Result<(), All
     append_next_string(objects, b"text", cut(text, row.start, row.length))
 }
 
-/// Appends the end of a row's object: what the registry has for it, the number of its record, and the fields of that.
-/// The records are those of the registry's file.
+/// Appends the end of a row's object: what the registry has for it, the number of its record, and the shown fields of
+/// the record. The records are those of the registry's file.
 #[tactic(auto, using(crate::proofs::ChainLemmas::three_members), unfolding(crate::specs::Json::row_end))]
 fn append_end(objects: &mut Vec<u8>, records: &[Record], listing: Listing) -> Result<(), AllocError>
     ensures { OnOk result (objects.new.items ≡ objects.old.items ++ row_end records.now listing) }

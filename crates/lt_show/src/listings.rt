@@ -12,9 +12,10 @@ use lt_tag::Tag;
 /// What a registry has for a part of a tag.
 #[derive(Clone, Copy, Debug, PartialEq, Eq)]
 pub enum Listing {
-    /// No registry lists parts of its kind: singletons, the subtags of extensions that are no source, private use.
+    /// No registry has records for parts of this kind: singletons, private use, and the subtags of extensions but for
+    /// those of the source of a `t` extension.
     Unlisted,
-    /// It is not registered.
+    /// No record of the registry is for this part.
     Unregistered,
     /// The record of this number in the file, counted from 1, with the header counted too.
     Record(u32),
@@ -78,8 +79,8 @@ fn listing_under<L: Lookup>(table: &L, kind: Kind, text: &[u8]) -> Listing
     }
 }
 
-/// What a table has for a part of a tag, by its kind and its text: for a grandfathered tag by the whole of it, and
-/// `Unlisted` where no record registers parts of the kind.
+/// What a table has for a part of a tag, by the kind and the text of the part. A grandfathered tag is looked up as a
+/// whole. `Unlisted` if no record registers parts of this kind.
 pub(crate) fn look_up<L: Lookup>(table: &L, tag: &Tag, kind: PartKind, text: &[u8]) -> Listing
     ensures { result ≡ spec.listing (L.listed table.now) tag.now kind text.now }
 {

@@ -15,7 +15,7 @@ use std::io::Read;
 /// Why a file gives no registry with its records.
 #[derive(Clone, Copy, Debug, Drop, PartialEq, Eq)]
 pub enum RecordsFault {
-    /// As the registry is refused where it is read alone.
+    /// The file is refused as when only the registry is read from it.
     Registry(RegistryFault),
     /// Memory ran out for the records.
     OutOfMemory,
@@ -32,7 +32,7 @@ fn copy_field(alloc: Global, field: &JarField) -> Result<JarField, OutOfMemory>
     })
 }
 
-/// Copies of those of a record's fields that are kept. They are refused only where memory runs out.
+/// Copies of the fields of a record that are kept. They are refused only where memory runs out.
 fn copy_fields(alloc: Global, fields: &[JarField]) -> Result<Vec<JarField>, OutOfMemory>
     ensures { IfOk result (λ copies. copies.items ≡ kept_fields fields.now) }
 {
@@ -45,7 +45,7 @@ fn copy_fields(alloc: Global, fields: &[JarField]) -> Result<Vec<JarField>, OutO
     Ok(copies)
 }
 
-/// Puts a record after the other records, with copies of those of these fields that are kept. It is refused only where memory
+/// Puts a record after the other records, with copies of those `fields` that are kept. It is refused only where memory
 /// runs out.
 fn push_record(
     alloc: Global,
@@ -79,9 +79,9 @@ impl Draft {
         }
     }
 
-    /// Keeps a record after the others, with copies of those of these fields that are kept. Once memory runs out for
-    /// one, no more are kept, and the clause says no more; the file is read on, since a fault of it is answered before
-    /// the lack of memory.
+    /// Keeps a record after the others, with copies of those `fields` that are kept. Once memory has run out for a
+    /// record, no more are kept, and the clause states nothing more. The file is still read to its end, since a fault
+    /// of the file is answered before lack of memory.
     fn take(&mut self, alloc: Global, fields: &[JarField])
         ensures { Keeps fields.now self.old self.new }
     {
@@ -123,7 +123,7 @@ fn read_draft<R: Read>(alloc: Global, device: &mut Device<R>) -> Result<Draft, J
 
 /// The registry that a device gives, and the records of its file, each with the fields that are shown or make its entry. An
 /// entry's number is that of its record among them, counted from 1. The device is read to its end, record by record, once. It
-/// is refused as `Registry::read` refuses it; and by `OutOfMemory` where memory runs out for the records.
+/// is refused as `Registry::read` refuses it, and by `OutOfMemory` if memory runs out for the records.
 #[tactic(auto, unfolding(crate::specs::Kept::ReadsDraft, crate::specs::Reading::ReadsRecords))]
 pub fn read_records<R: Read>(
     alloc: Global,

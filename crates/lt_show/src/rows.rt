@@ -1,4 +1,4 @@
-//! A row for each part of a tag.
+//! A row for each part of a tag, and one for the whole tag if that is registered as redundant.
 ghost use Rattle.std.specs.Prelude.{◌≡◌, ◌++◌, IfOk, OnOk, drop, take};
 ghost use Rattle.std.specs.Option.{option_copied};
 ghost use Rattle.lt_tag.specs.Texts.{text_of};
@@ -76,12 +76,12 @@ fn whole_rows<L: Lookup>(
     Ok(rows)
 }
 
-/// What a registry has for the parts of a tag: where the whole tag is registered as redundant (RFC 5646, 2.2.8) a row for
-/// that, and then one for each part, in order. A grandfathered tag is one part. The subtags of the source of a `t`
+/// What a registry has for the parts of a tag: a row for the whole tag if that is registered as redundant (RFC 5646,
+/// 2.2.8), and then one for each part, in order. A grandfathered tag is one part. The subtags of the source of a `t`
 /// extension are looked up as those of a tag.
 ///
-/// `zh-yue` has a `Language` at place 1, with the number of the record of `zh`, and an `Extlang` at place 2 with that of
-/// `yue`. The only refusal is running out of memory.
+/// `de-CH` has a `Language` at place 1, with the number of the record of `de`, and a `Region` at place 2 with that of
+/// `CH`. The only refusal is running out of memory.
 pub fn rows_of<L: Lookup>(alloc: Global, table: &L, tag: &Tag) -> Result<Vec<Row>, OutOfMemory>
     ensures { IfOk result (λ rows. rows.items ≡ spec.rows_of (L.listed table.now) tag.now) }
 {

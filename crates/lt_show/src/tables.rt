@@ -94,8 +94,8 @@ struct Widths {
     text: usize,
 }
 
-/// How wide the columns of rows are: as wide as their longest cells. The texts of rows are cut out of `text`, the text
-/// of the tag.
+/// How wide the columns of rows are: each is as wide as its longest cell. `text` is the text of the tag, out of which
+/// the texts of the rows are cut.
 fn widths_of(text: &[u8], rows: &[Row]) -> Widths
     ensures { result ≡ spec.widths_of text.now rows.now }
 {
@@ -111,8 +111,8 @@ fn widths_of(text: &[u8], rows: &[Row]) -> Widths
     }
 }
 
-/// Appends what the registry has: the number of a record, that there is none, or nothing where no record registers such
-/// parts.
+/// Appends what the registry has for a row: `record 190`, `not registered`, or nothing for a part of a kind that no
+/// registry registers, for example a singleton.
 fn append_listing(told: &mut Vec<u8>, alloc: Global, listing: Listing) -> Result<(), OutOfMemory>
     ensures { OnOk result (told.new.items ≡ told.old.items ++ spec.listing_text listing) }
 {
@@ -126,8 +126,8 @@ fn append_listing(told: &mut Vec<u8>, alloc: Global, listing: Listing) -> Result
     Ok(())
 }
 
-/// Appends the line of a row, whose text is cut out of `text`, the text of the tag. Where no record registers such
-/// parts, the line ends with that text.
+/// Appends the line of a row. `text` is the text of the tag, out of which the row's text is cut. If the row is about a
+/// part of a kind that no registry registers, for example a singleton, the row's text ends the line.
 fn append_row_line(
     told: &mut Vec<u8>,
     alloc: Global,

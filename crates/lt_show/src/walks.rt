@@ -93,8 +93,8 @@ fn append_t(alloc: Global, kinds: &mut Vec<PartKind>, parts: &TParts) -> Result<
     append_fields(kinds, &parts.fields)
 }
 
-/// Adds the kinds of the subtags after the singleton of a `u` extension, each of which has parts. The singleton must be
-/// `u`, by which `subtag_kinds` takes these kinds.
+/// Adds the kinds of the subtags after the singleton of a `u` extension, which can always be split into its parts. The
+/// singleton must be `u`: by that `subtag_kinds` gives these kinds.
 fn append_unicode(
     alloc: Global,
     kinds: &mut Vec<PartKind>,
@@ -108,7 +108,7 @@ fn append_unicode(
 }
 
 /// Adds the kinds of the subtags after the singleton of a `t` extension. If they don't have the form of RFC 6497, 2.2, each is
-/// an `ExtensionSubtag`. The singleton must be `t`, by which `subtag_kinds` takes these kinds.
+/// an `ExtensionSubtag`. The singleton must be `t`: by that `subtag_kinds` gives these kinds.
 fn append_transform(
     alloc: Global,
     kinds: &mut Vec<PartKind>,
@@ -126,7 +126,7 @@ fn append_transform(
     }
 }
 
-/// Adds the kinds of extensions: for each extension those of its singleton and of the subtags after it.
+/// Adds the kinds of the subtags of extensions: for each extension those of its singleton and of the subtags after it.
 fn append_extensions(
     alloc: Global,
     kinds: &mut Vec<PartKind>,

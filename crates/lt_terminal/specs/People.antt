@@ -10,17 +10,17 @@ use Rattle.lt_tool.specs.Program.{Reports, RunsProgram}
 use Rattle.lt_tool.specs.Streams.{IsUntouched, Stream}
 use Rattle.lt_tool.specs.declared.outcomes.Outcome.{Outcome}
 
--- whether a person is told of the run of a command: at a terminal, or where the command line asks for a summary
+-- whether a person is told of the run of a command: at a terminal, or if the command line asks for a summary
 abbrev pub is_told : (at_terminal : Bool) → Command → Bool
 is_told at_terminal command = at_terminal || has_summary command
 
--- whether a person is told of a run by its words: nobody is where the words name no command
+-- whether a person is told of a run with these words; nobody is told if the words name no command
 abbrev pub is_asked : (at_terminal : Bool) → Result Command WordsFault → Bool
 is_asked at_terminal (Ok command) = is_told at_terminal command
 is_asked at_terminal (Err fault) = false
 
--- the command that the words name was run; or they name none, nothing was opened or read, and the run says why;
--- `calls` relates the opener's state, `before`, a path, the answer and the next state, at last `after`
+-- The command that the words name was run; or they name none, nothing was opened or read, and the run says why. `calls`
+-- relates the opener's state, a path, its answer and its next state; its state was `before` and is `after`.
 abbrev pub ComesTo : {P F I O E : Type 0} → (P → List ℕ → Result F Error → P → Type 0) → (F → Option (List ℕ))
     → Result Command WordsFault → (registry : List ℕ) → (before after : P) → Stream I → Stream O → Stream E → Outcome
     → Type 0

@@ -15,8 +15,8 @@ fn is_likely_tag(alloc: Global, text: &[u8]) -> bool {
     first_subtag(text).len() <= 3 && read_tag(alloc, text).is_ok()
 }
 
-/// The command that would read `text` as a tag, by the registry `@`, where it was given for the registry of `command`. None if
-/// the text is no likely tag, or the command has no such form.
+/// The words of a command that reads `text` as a tag, by the registry `@`; it was given in the place of the registry of
+/// `command`. None if the text is no likely tag, there is no such form for the command, or memory runs out.
 fn right_words(alloc: Global, command: &Command, text: &str) -> Option<String> {
     if !is_likely_tag(alloc, text.as_bytes()) {
         return None;
@@ -30,7 +30,7 @@ fn right_words(alloc: Global, command: &Command, text: &str) -> Option<String> {
     }
 }
 
-/// Whether a line says that this file can't be opened.
+/// Whether a line says that the file with this path can't be opened: the path and a colon begin it.
 fn is_of_file(line: &str, path: &str) -> bool {
     match line.strip_prefix(path) {
         Some(rest) => rest.starts_with(": "),
@@ -38,8 +38,9 @@ fn is_of_file(line: &str, path: &str) -> bool {
     }
 }
 
-/// Appends what to write where a file can't be opened, as `line` says. That is what `@` means; or, if a text that may be a
-/// tag was given in the place of the registry, the words by which it is read as a tag. `registry` is the path that `@` means.
+/// Appends what to write if the first file of a command can't be opened, as `line` says: what `@` means, if that was
+/// given; or the words by which the name is read as a tag, if it may be one. Appends nothing for any other file.
+/// `registry` is the path that `@` means.
 pub(crate) fn append_hint(
     told: &mut Vec<u8>,
     alloc: Global,

@@ -12,11 +12,11 @@ use std::alloc::{AllocError, Global};
 use std::cell::Cell;
 use std::io::{self, ErrorKind, Write};
 
-/// A person is told the lines of a run each time that so many are full.
+/// A person is told how many lines were answered each time that this many more are full.
 const MILLION: u64 = 1_000_000;
 
 /// A writer that hands on what it takes, and tells a person how many lines that were, each time that a million more
-/// is full. It notes that nobody reads the output any more, as behind a pipe whose reader ended.
+/// are full. It notes that nobody reads the output any more, for example since the reader of a pipe has ended.
 #[derive(Drop)]
 pub struct Progress<'a, W, T> {
     alloc: Global,
@@ -29,8 +29,8 @@ pub struct Progress<'a, W, T> {
 
 impl<'a, W, T> Progress<'a, W, T> {
     /// A writer over `inner`, in a device that has not failed (`inner`), that took nothing so far. If `is_told`, it
-    /// tells people how many lines it took, each time a million is full (`told`); false where the output is a
-    /// terminal itself, whose lines tell that. `is_unread` is set once a write finds no reader.
+    /// tells people how many lines it took, each time that a million more are full (`told`). `is_told` is false if the
+    /// output is a terminal itself, whose lines tell that. `is_unread` is set once a write finds no reader.
     pub fn new(
         alloc: Global,
         inner: W,
@@ -73,7 +73,7 @@ impl<'a, W: Write, T: Write> Write for Progress<'a, W, T> {
     ghost contents = { λ progress. W.contents (inner_of progress.inner) };
 
     /// Writes once to the writer, and counts the lines that it took, if a person is told of them; else nothing is
-    /// written to people (`told`). As of each writer, it takes no more than `buf` (`bound`), and what it takes
+    /// written to people (`told`). As with every writer, it takes no more than `buf` (`bound`), and what it takes
     /// follows what it took before (`bytes`). An error is a failure of its device (`fails`).
     fn write(&mut self, buf: &[u8]) -> io::Result<usize>
         ensures bound { WritesAtMost result buf.now }

@@ -10,7 +10,7 @@ struct Place<'a> {
     name: &'a str,
 }
 
-/// The name and the body of the field that a line begins. None if it continues one, or has no colon.
+/// The name and the body of the field that begins in a line. None if the line continues a field, or has no colon.
 fn field_in(line: &str) -> Option<(&str, &str)> {
     if line.starts_with(' ') || line.starts_with('\t') {
         return None;
@@ -44,9 +44,9 @@ fn front_text(bytes: &[u8]) -> &str {
     }
 }
 
-/// Where the record of this number, counted from 1, begins in the text of a registry, and what it is. None if there are fewer
-/// records. Lines `%%` part the records (RFC 5646, 3.1.1); where blank lines alone are between two of them, there is no
-/// record.
+/// Where the record of this number, counted from 1, begins in the text of a registry, and what it is. None if there are
+/// fewer records. Lines `%%` part the records (RFC 5646, 3.1.1); if only blank lines are between two of them, that is
+/// no record.
 fn place_in(text: &str, number: u32) -> Option<Place<'_>> {
     let mut place = None;
     let (mut seen, mut is_within) = (0u32, false);
@@ -79,7 +79,7 @@ fn place_line(alloc: Global, number: u32, place: &Place<'_>) -> Result<String, A
 }
 
 /// The line that tells what the record of this number is and where it begins in the bytes of a registry. None if there is no
-/// such record, or no memory.
+/// such record before the first byte that is not UTF-8, or memory runs out.
 pub(crate) fn told_place(alloc: Global, bytes: &[u8], number: u32) -> Option<String> {
     let place = place_in(front_text(bytes), number)?;
     place_line(alloc, number, &place).ok()

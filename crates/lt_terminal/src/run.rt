@@ -18,7 +18,7 @@ use std::io::{self, Read, Write};
 pub struct People<'a, T, Q> {
     /// Where they are told.
     pub device: Device<T>,
-    /// Whether that is a terminal: else they are told only if the words ask for a summary.
+    /// Whether that is a terminal. If not, they are told only if the words ask for a summary.
     pub at_terminal: bool,
     /// Opens a file of the command again, in which a record of a registry is looked for.
     pub again: Q,

@@ -34,8 +34,8 @@ pub(crate) fn append_counts(
     told.extend_from_slice(b" refused\n")
 }
 
-/// The byte that stands for one of a refused text: a question mark for what is not printable in ASCII, so that a text
-/// does nothing at a terminal.
+/// The byte that is shown for a byte of a refused text: a question mark for one that is not printable ASCII, so that
+/// the text does nothing at a terminal.
 fn shown_byte(byte: u8) -> u8 {
     if byte >= b' ' && byte <= b'~' {
         byte
@@ -44,7 +44,7 @@ fn shown_byte(byte: u8) -> u8 {
     }
 }
 
-/// Appends a text with a question mark for each byte that is not printable in ASCII.
+/// Appends a text with a question mark for each byte that is not printable ASCII.
 pub(crate) fn append_shown(told: &mut Vec<u8>, text: &[u8]) -> Result<(), AllocError> {
     for byte in text {
         told.push(shown_byte(*byte))?;

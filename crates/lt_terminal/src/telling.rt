@@ -51,7 +51,7 @@ fn refused_file<'a>(command: &'a Command, fault: &Fault) -> Option<&'a str> {
     }
 }
 
-/// Appends the line of a refused file, with its path.
+/// Appends the line that names a refused file: `The file is ` and its path. `name` is its name on the command line.
 fn append_file(
     told: &mut Vec<u8>,
     command: &Command,
@@ -94,7 +94,8 @@ fn append_which(told: &mut Vec<u8>, command: &Command, is_other: bool) -> Result
     Ok(())
 }
 
-/// Appends what to do about the text that a fault refuses: which of two texts it is, and what the fault means.
+/// Appends what to do about the text that a fault refuses: which of two texts it is (`is_other` for the second), and
+/// what the fault, whose name is `name`, means.
 fn append_text(
     told: &mut Vec<u8>,
     command: &Command,
@@ -109,7 +110,7 @@ fn append_text(
     append_refused(told, name.as_bytes(), text.as_bytes())
 }
 
-/// Appends what to do about a text of `show`, if it is no tag, or likely to be refused.
+/// Appends what to do about a text of `show`, if it is no tag, or if its language or region is likely to be refused.
 fn append_of_shown(told: &mut Vec<u8>, alloc: Global, text: &[u8]) -> Result<(), AllocError> {
     match read_tag(alloc, text) {
         Ok(_) => append_likely(told, text),
@@ -125,7 +126,8 @@ fn append_shown_texts(told: &mut Vec<u8>, alloc: Global, tags: &Tags) -> Result<
     Ok(())
 }
 
-/// Appends what to do about language ranges that no line matched.
+/// Appends what to do about language ranges that no line matched, for each whose language or region is likely to be
+/// wrong.
 fn append_ranges(told: &mut Vec<u8>, texts: &[String]) -> Result<(), AllocError> {
     for text in texts {
         append_likely(told, text.as_bytes())?;
@@ -133,8 +135,8 @@ fn append_ranges(told: &mut Vec<u8>, texts: &[String]) -> Result<(), AllocError>
     Ok(())
 }
 
-/// The first bytes of a file, as many as a record is looked for in. None if the file can't be opened or read, or
-/// where memory runs out.
+/// The first bytes of the file with this path, 16 MiB at most, in which a record is looked for. None if the file can't
+/// be opened or read, or memory runs out.
 fn bytes_of<F: Read + Drop, Q: FnMut(&str) -> io::Result<F>>(
     alloc: Global,
     again: &mut Q,
@@ -150,7 +152,8 @@ fn bytes_of<F: Read + Drop, Q: FnMut(&str) -> io::Result<F>>(
 }
 
 /// The line that says what the record is that a fault names, and where it begins in its file, which is read again for
-/// that. None if the fault names no record, or if the record can't be found.
+/// that. None if the fault names no record, the command has no such file, the file can't be opened and read again, the
+/// record is not found in it, or memory runs out.
 fn place_of<F: Read + Drop, Q: FnMut(&str) -> io::Result<F>>(
     alloc: Global,
     command: &Command,
@@ -168,6 +171,7 @@ fn place_of<F: Read + Drop, Q: FnMut(&str) -> io::Result<F>>(
 }
 
 /// Appends what a fault means, and what to do: which text or file is refused, or which file can't be opened, and why.
+/// Appends nothing for wrong usage, whose text says all.
 fn append_cause(
     told: &mut Vec<u8>,
     alloc: Global,

@@ -1,8 +1,8 @@
 //! Text for people: lines that fit a terminal, and numbers.
 use std::alloc::{AllocError, Global};
 
-/// The most bytes of a line: nobody can ask a terminal for its width, and 80 is the least that is usual; two stay
-/// free.
+/// The most bytes of a line: the program can't ask a terminal for its width, and 80 is the least that is usual; two
+/// stay free.
 const WIDTH: usize = 78;
 
 /// Appends a text as lines of at most 78 bytes, each of which begins with `indent`. They are broken at spaces, so a

@@ -1,4 +1,6 @@
--- What was written of the lines of an explanation and of the bytes around them, and what it says of the command.
+-- For `write_lines` and `explain`: which bytes of an explanation, and of the bytes `head` and `tail` around it, were
+-- written at each turn of the loop, and which are still kept in memory; and so what is written at the end, or up to a
+-- write that fails. A front of a text is its first bytes.
 use Rattle.std.proofs.Common.{◌≡◌, ◌∙◌, inl, inr, ℕ, List, [], ◌++◌, Option, Result, Ok, Err, IsErrAnd, refl, subst}
 use Rattle.std.proofs.Common.{sym, ap, append_assoc, append-nil}
 use Rattle.std.proofs.KnownBytes.{Appends-nil, Appends-trans}
@@ -20,8 +22,9 @@ use Rattle.lt_tool.specs.Runs.{written as written_end}
 use Rattle.lt_tool.specs.Streams.{Stream, stream}
 use Rattle.lt_tool.specs.Written.{WritesAll, WritesLines}
 
--- `given`, which is `head` and `lines`, are the bytes `written` and `kept`: then a text of `given` and more can be cut
--- within `kept`, which is `front` and `rest`
+-- `head` and `lines` are the bytes that are `written` and those that are `kept`, and `kept` is `front` and then `rest`.
+-- Then the whole text, with `more` lines and the `tail`, is what is written and `front`, and then `rest` and what
+-- follows.
 cut_more : (head lines more tail written kept front rest : List ℕ) → written ++ kept ≡ head ++ lines
     → kept ≡ front ++ rest
     → head ++ ((lines ++ more) ++ tail) ≡ (written ++ front) ++ (rest ++ (more ++ tail))
@@ -47,7 +50,7 @@ pub record HasWritten {W : Type 0} (contents : W → Option (List ℕ)) (head : 
 -- is left of it; `start` is the device before all writes, and `before` the device before the next one
 module _ {W : Type 0} (contents : W → Option (List ℕ)) (head : List ℕ) (first left : StepsLeft) (tail : List ℕ)
     (start before : Device W) where
-  -- at the start no line was given, and `head` is kept
+  -- at the start no line was given, nothing was written, and `head` is kept
   pub written_none : IsTrace first.entries first.here first.steps first.end
       → HasWritten contents head first first start start head
   written_none h = record {
@@ -60,7 +63,7 @@ module _ {W : Type 0} (contents : W → Option (List ℕ)) (head : List ℕ) (fi
     all = sym (append-nil head);
   }
 
-  -- the line of a step was added to the kept lines, which leaves `next`
+  -- the line of a step was added to the kept bytes, which are `new` then, and `next` is left of the explanation
   pub written_step : (next : StepsLeft) (old new : List ℕ) → HasWritten contents head first left start before old
       → AppendsStep left next old new → HasWritten contents head first next start before new
   written_step next old new w on =
@@ -140,7 +143,8 @@ module _ {W : Type 0} (contents : W → Option (List ℕ)) (head : List ℕ) (fi
         },
       )
 
-  -- the line of the end and `tail` were added to what is kept, and this was written, with the result `r`
+  -- The line of the end and `tail` were added to what is kept, and all that was written, with the result `r`: so all
+  -- was written, or a front of it if the write failed.
   pub written_all : (after : Device W) (next : StepsLeft) (old new kept : List ℕ) (r : Result (Unit {0}) ToolFault)
       → HasWritten contents head first left start before old → AppendsEnd left next old new
       → kept ≡ new ++ tail → WritesText contents kept before after r
@@ -172,7 +176,7 @@ module _ {W : Type 0} (contents : W → Option (List ℕ)) (head : List ℕ) (fi
         },
       )
 
--- the lines of a whole explanation were written as far as `result` says
+-- the lines of the whole explanation of a text were written as far as `result` says, which is what `explain` promises
 pub explained : {O : Type 0} (R : List EntryParts) (text : List ℕ) (left : StepsLeft) (output : Stream O)
     (result : Result (Unit {0}) ToolFault) → IsWholeLeft R text left
     → WritesLines [] left [] output result → ExplainsText R text output (written_end result)

@@ -1,4 +1,5 @@
--- Texts that are read as ranges.
+-- For the loop of `read_ranges`: the texts before an index are read as ranges, and the next one is read too or is the
+-- first that is refused.
 use Rattle.std.proofs.Common.{◌≡◌, ◌<◌, ◌+◌, ◌++◌, ◌∷◌, ◌∙◌, ℕ, List, [], ap, arith, drop, get_or, length, map, refl, subst, sym, take}
 use Rattle.std.proofs.lemmas.List.{drop_more, length-map, length-take-le, map-append, take-append-drop, take_more}
 use Rattle.lt_registry.specs.Parts.{EntryParts}
@@ -8,7 +9,7 @@ use Rattle.lt_range.specs.Refusals.{IsRangeRefusal}
 use Rattle.lt_tool.specs.declared.ranges.RefusedRange.{RefusedRange}
 use Rattle.lt_tool.specs.Selected.{AreRanges, RefusesRange}
 
--- `ranges` are those of `texts`: with the range of one text more they are those of all
+-- if `ranges` are those of `texts`, they and the range of one text more are those of all these texts
 ranges_more : (R : List EntryParts) (texts : List (List ℕ)) (ranges : List RangeParts) (text : List ℕ) (range
     : RangeParts) → AreRanges R texts ranges → IsExtlangRange R text range
     → AreRanges R (texts ++ text ∷ []) (ranges ++ range ∷ [])

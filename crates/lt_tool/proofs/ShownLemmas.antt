@@ -1,4 +1,6 @@
--- Tags that are shown one after another, and the file whose records are kept.
+-- For the command `show`: the loop of `show_each`, which writes the blocks of texts one after another, and the plan
+-- that `plan_kept` makes of a file. A block is what is written for one text, and `refused` is whether that text is
+-- refused.
 use Rattle.std.proofs.Common.{◌≡◌, ◌<◌, ◌≤◌, ◌+◌, ◌++◌, ◌∷◌, ◌∙◌, ℕ, Bool, true, false, List, [], ap, append_assoc}
 use Rattle.std.proofs.Common.{drop, get_or, inl, inr, length, map, refl, subst, sym, Option, Result, Ok, Err}
 use Rattle.std.proofs.lemmas.List.{drop_all, drop_more}
@@ -32,21 +34,21 @@ pub block_as : {O : Type 0} (P Q : (block : List ℕ) → (refused : Bool) → T
 block_as P Q output result f (inl none) = inl none
 block_as P Q output result f (inr w) = inr (w.0, w.1, f w.0 w.1 w.2, w.3)
 
--- the table `head` and a line that says why a text is refused end its block
+-- the block of a text whose tag is refused: the table `head`, the line of the refusal, and an empty line
 pub refusal_shown : (R : List EntryParts) (text head : List ℕ) (refusal : TextRefusal) (block : List ℕ)
     (refused : Bool) → IsTextRefusal R text refusal → EndsRefused refusal head block refused
     → EndsBlock R text head block refused
 refusal_shown R text head refusal block refused is ends =
     rw ends.3 (ends.0, record { refusal = refusal; is_refusal = is; line_is = ends.1 }, ends.2)
 
--- what is shown of a text that is a tag, with its table
+-- a block that is the table of a tag and what ends it is what is shown of the tag's text
 pub tag_shown : (R : List EntryParts) (records : List (List Field)) (text : List ℕ) (tag : TagForm) (block : List ℕ)
     (refused : Bool) → HasTag text tag → EndsBlock R text (table_of R records tag) block refused
     → ShowsAs false R records text block refused
 tag_shown R records text tag block refused read ends =
     inl (record { tag = tag; read = read; ending = ends.0; ends = ends.1; block_is = ends.2 })
 
--- what is shown of a text that is no tag
+-- a block that is the text itself, the line that says why it is no tag, and an empty line is what is shown of that text
 pub fault_shown : (R : List EntryParts) (records : List (List Field)) (text : List ℕ) (fault : TagFault)
     (block : List ℕ) (refused : Bool) → HasFault text fault.kind fault.place
     → EndsRefused (refusals.NotATag fault) (map shown_byte text ++ 10 ∷ []) block refused
@@ -67,17 +69,18 @@ or_none : (b : Bool) → (b || false) ≡ b
 or_none true = refl
 or_none false = refl
 
--- three flags joined by `or` in two orders
+-- three flags give the same, whichever two of them are joined by `or` first
 or_assoc : (a b c : Bool) → (a || (b || c)) ≡ ((a || b) || c)
 or_assoc true b c = refl
 or_assoc false b c = refl
 
--- what came of several texts, where none before them is refused
+-- if no text before them is refused, what came of several texts stays what it is
 first_none : (result : Result Bool ToolFault) → with_first false result ≡ result
 first_none (Ok more) = refl
 first_none (Err fault) = refl
 
--- what came of several texts, by those before them, and by the one before these
+-- what came of several texts is the same, whether the flags `any` and `refused` of those before them are joined first
+-- or one after the other
 first_joined : (any refused : Bool) (result : Result Bool ToolFault)
     → with_first any (with_first refused result) ≡ with_first (any || refused) result
 first_joined any refused (Ok more) = ap (λ (b : Bool). Ok b) (or_assoc any refused more)
@@ -99,7 +102,7 @@ module _ {O : Type 0} (contents : O → Option (List ℕ)) (Shows : (text block 
   shown_none all after result w = subst (WritesBlocks Shows all (stream contents start after))
       (sym (first_none result)) w
 
-  -- the block of the next text was written
+  -- the block of the next text was written, so that text is no longer left
   shown_next : (all : List (List ℕ)) (text : List ℕ) (texts : List (List ℕ)) (before between : Device O)
       (any refused : Bool) → HasShown all (text ∷ texts) before any
       → WritesBlock (Shows text) (stream contents before between) (Ok refused)
@@ -113,7 +116,7 @@ module _ {O : Type 0} (contents : O → Option (List ℕ)) (Shows : (text block 
         goes_on = (result, w, refl);
       }))
 
-  -- the run ended at the next text
+  -- the block of the next text was not written whole, so the run ended there with its fault
   shown_cut : (all : List (List ℕ)) (text : List ℕ) (texts : List (List ℕ)) (before between : Device O) (any : Bool)
       (fault : ToolFault) → HasShown all (text ∷ texts) before any
       → WritesBlock (Shows text) (stream contents before between) (Err fault)
@@ -126,7 +129,7 @@ module _ {O : Type 0} (contents : O → Option (List ℕ)) (Shows : (text block 
         goes_on = (refl, refl);
       })
 
-  -- no text is left
+  -- no text is left, so the blocks of all were written, and `any` is whether one of the texts is refused
   shown_whole : (all : List (List ℕ)) (before : Device O) (any : Bool) → HasShown all [] before any
       → WritesBlocks Shows all (stream contents start before) (Ok any)
   shown_whole all before any shown =

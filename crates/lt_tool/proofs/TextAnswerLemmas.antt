@@ -1,4 +1,4 @@
--- What is answered to a text, as one statement, from the two clauses of a call.
+-- For `pair_fault`: the two clauses of `canonical_text`, on its answer and on its refusal, as one statement.
 use Rattle.std.proofs.Common.{ℕ, List, Global, Vec, Result, Ok, Err}
 use Rattle.std.specs.Prelude.{IfErr, IfOk}
 use Rattle.lt_canon.specs.Texts.{IsCanonicalTextOf, IsTextRefusal}
@@ -6,7 +6,7 @@ use Rattle.lt_canon.specs.declared.refusals.TextRefusal.{TextRefusal}
 use Rattle.lt_registry.specs.Parts.{EntryParts}
 use Rattle.lt_tool.specs.TagCommands.{IsTextAnswer}
 
--- a canonical text or a refusal is what is answered
+-- `own`, which is the canonical text of a text or the reason why it has none, is what is answered to that text
 pub text_answer : (R : List EntryParts) (text : List ℕ) (own : Result (Vec ℕ Global) TextRefusal)
     → IfOk own (λ canonical. IsCanonicalTextOf R text canonical.items)
     → IfErr own (λ refusal. IsTextRefusal R text refusal)

@@ -15,7 +15,7 @@ use Rattle.lt_tool.specs.declared.status.Status.TheVariants as status
 abbrev pub class_line : TagForm → List ℕ
 class_line form = class_word (class_of form) ++ 32 ∷ [] ++ conventional (spell form) ++ 10 ∷ []
 
--- the line of `check` for a registry of so many entries
+-- the line of `check` for a registry with this many entries
 abbrev pub entries_line : ℕ → List ℕ
 entries_line count = codes "ok " ++ decimal count ++ 10 ∷ []
 
@@ -29,7 +29,7 @@ line_of (answers.Entries count line) = line.items
 line_of (answers.Lines counts) = []
 line_of (answers.Written end) = []
 
--- the status by whether something was refused, or nothing found
+-- the status of a run: Refused if it refused something, Done if not
 abbrev pub status_if : (refused : Bool) → Status
 status_if true = status.Refused
 status_if false = status.Done

@@ -1,4 +1,4 @@
--- How a run ends: what is printed, and what the errors tell.
+-- How a run ends: what is printed on the standard output, and what is told on the standard error, which is `errors`.
 use Rattle.std.specs.Prelude.{◌≡◌, [], ◌∷◌, ◌++◌, Result, Ok, Err, codes, string_bytes}
 use Rattle.lt_stream.specs.DeviceOutput.{WritesText}
 use Rattle.lt_stream.specs.Faults.{fault_said}
@@ -22,7 +22,8 @@ abbrev pub status_at : End → Status
 status_at (Ok answer) = of_answers.status_of answer
 status_at (Err fault) = of_faults.status_of fault
 
--- what a run came to was printed: its answer, or the line of its fault
+-- what a run came to was printed, its answer or the line of its fault; `printed` is the fault if a write failed or
+-- memory ran out for the line
 abbrev pub PrintsEnd : {O : Type 0} → End → Stream O → Result (Unit {0}) ToolFault → Type 0
 PrintsEnd (Ok answer) output printed =
     WritesText output.bytes (of_answers.line_of answer) output.before output.after printed
@@ -33,20 +34,21 @@ abbrev pub end_after : End → (printed : Result (Unit {0}) ToolFault) → End
 end_after end (Ok done) = end
 end_after end (Err fault) = Err (faults.Run fault)
 
--- the errors tell what failed, or how the words are wrong; they tell nothing of a fault whose line is printed
+-- the standard error was told what failed, or how the words are wrong; nothing was written to it for a fault whose line
+-- is printed
 abbrev pub SaysFault : {E : Type 0} → Fault → Stream E → Type 0
 SaysFault (faults.Usage text) errors = Says errors (string_bytes text)
 SaysFault (faults.File told) errors = Says errors (codes "! File" ++ 10 ∷ [])
 SaysFault (faults.Run fault) errors = Says errors (fault_said fault)
 SaysFault fault errors = IsUntouched errors
 
--- the errors tell what a run came to, if it failed or its words are wrong
+-- the standard error was told what a run came to, if it failed or its words are wrong; else nothing was written to it
 abbrev pub SaysEnd : {E : Type 0} → End → Stream E → Type 0
 SaysEnd (Ok answer) errors = IsUntouched errors
 SaysEnd (Err fault) errors = SaysFault fault errors
 
--- the end of a run was printed, and what the run then came to was told on the errors: it is `end` before it is
--- printed, and `last` after that
+-- The end of a run was printed and told. The run came to `end` before that was printed, and to `last` after it: they
+-- differ only if printing failed. It is `last` that the standard error is told.
 pub record Finishes {O E : Type 0} (end : End) (output : Stream O) (errors : Stream E) (last : End) : Type 0 where
   pub printed : Result (Unit {0}) ToolFault
   pub prints : PrintsEnd end output printed

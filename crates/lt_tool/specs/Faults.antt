@@ -23,7 +23,7 @@ use Rattle.lt_tool.specs.declared.registries.RegistryRefusal.TheVariants as refu
 use Rattle.lt_tool.specs.declared.status.Status.{Status}
 use Rattle.lt_tool.specs.declared.status.Status.TheVariants as status
 
--- what tells the lines of two registries apart
+-- what the line of a refused registry begins with, to tell two registries apart
 abbrev pub mark_of : Role → List ℕ
 mark_of roles.Only = []
 mark_of roles.Older = codes "old "
@@ -59,7 +59,8 @@ verdict_line (verdicts.NoSuchStep n) = codes "! NoSuchStep " ++ decimal n ++ 10 
 verdict_line verdicts.WrongEnd = codes "! WrongEnd" ++ 10 ∷ []
 verdict_line (verdicts.BadStep n) = codes "! BadStep " ++ decimal n ++ 10 ∷ []
 
--- the line that is printed for a fault; nothing is printed for one that the errors tell
+-- the line that is printed for a fault; it is empty for wrong usage, a file that can't be opened and a run that failed,
+-- which the standard error is told instead
 abbrev pub IsFaultLine : Fault → List ℕ → Type 0
 IsFaultLine (faults.Text refusal) line = IsRefusalLine refusal line
 IsFaultLine (faults.OtherText refusal) line = IsRefusalLine refusal line

@@ -16,12 +16,12 @@ use Rattle.lt_tool.specs.declared.plans.Plan.TheVariants as plans
 use Rattle.lt_tool.specs.declared.streams.Files.{Files}
 use Rattle.lt_tool.specs.declared.streams.Source.{Source}
 
--- lines are to be answered with objects of JSON, by the registry of a file
+-- each line is to be answered with a JSON object, by the registry of a file
 abbrev pub PlansJson : {F : Type 0} → Stream F → Result Plan Fault → Type 0
 PlansJson file result = ByRegistry file (λ R result. result ≡ Ok (plans.Json R)) result
 
--- only the first of the files was read, of which `Gives` is true, and nothing of the second and of the input; the
--- files were `before` and are `after`
+-- only the first of the files was read, not the second one nor the input, and `Gives` is true of the first one before
+-- and after that; the files were `before` and are `after`
 abbrev pub ReadsFirst : {F I : Type 0} → (F → Option (List ℕ)) → (before after : Files F) → Stream I
     → (Stream (Source F) → Type 0) → Type 0
 ReadsFirst bytes before after input Gives =

@@ -1,5 +1,7 @@
--- A whole run of the program, from its command to what it came to. `calls` relates the opener's state, a path, the
--- answer and the next state; `before` and `after` are such states, and `registry` is the path that `@` means.
+-- A whole run of the program, from its command to what it came to. The opener is the function that opens files. `calls`
+-- relates its state, a path, its answer and its next state; `before`, `between` and `after` are such states, unless
+-- something else is said of them. `registry` is the path that `@` means, and `taken` says that the command reads the
+-- standard input as its lines.
 use Rattle.std.specs.Prelude.{◌≡◌, ◌≢◌, ◌⊎◌, ℕ, Bool, true, false, List, [], Option, Some, None, String, Vec}
 use Rattle.std.specs.Prelude.{Result, Ok, Err, IfErr, IfOk, length, codes, string_bytes}
 use Rattle.std.specs.IoError.{error_kind}
@@ -35,7 +37,7 @@ IsPath taken registry name path =
     ⊎ ((taken ≡ false) × (name ≡ codes "-") × (path ≡ codes "/dev/stdin"))
     ⊎ ((name ≢ codes "@") × ((taken ≡ true) ⊎ (name ≢ codes "-")) × (path ≡ name))
 
--- the fault of a file that can't be opened, by the kind of the error
+-- the fault of a file that can't be opened, by the kind of the error: that memory ran out, or a `File` fault
 abbrev pub IsFileFault : ErrorKind → Fault → Type 0
 IsFileFault kinds.OutOfMemory fault = fault ≡ no_memory
 IsFileFault kind fault = (told : Option (String Global)) × (fault ≡ faults.File told)
@@ -45,8 +47,7 @@ abbrev pub IsOpened : {F : Type 0} → Result F Error → Result (Source F) Faul
 IsOpened (Ok file) result = result ≡ Ok (sources.File file)
 IsOpened (Err error) result = (fault : Fault) × IsFileFault (error_kind error) fault × (result ≡ Err fault)
 
--- the file that a name means is opened by one call; `calls` relates the opener's state, a path, the answer and the
--- next state
+-- the opener was called once, with the path of the file that a name means, and `result` is what its answer gives
 pub record OpensNamed {P F : Type 0} (calls : P → List ℕ → Result F Error → P → Type 0) (before after : P)
     (taken : Bool) (registry name : List ℕ) (result : Result (Source F) Fault) : Type 0 where
   pub path : List ℕ
@@ -55,14 +56,14 @@ pub record OpensNamed {P F : Type 0} (calls : P → List ℕ → Result F Error 
   pub called : calls before path answer after
   pub is_opened : IsOpened answer result
 
--- the file of a name is opened, if there is a name
+-- the file of a name is opened, if there is a name; if not, the opener is not called, and the source is empty
 abbrev pub OpensFile : {P F : Type 0} → (P → List ℕ → Result F Error → P → Type 0) → (before after : P)
     → (taken : Bool) → (registry : List ℕ) → Option (List ℕ) → Result (Source F) Fault → Type 0
 OpensFile calls before after taken registry None result = (after ≡ before) × (result ≡ Ok sources.Empty)
 OpensFile calls before after taken registry (Some name) result =
     OpensNamed calls before after taken registry name result
 
--- a device of `inner` that was not read or written so far
+-- a device around `inner` that counts no reads and no failures so far
 pub record IsNew {T : Type 0} (inner : T) (device : Device T) : Type 0 where
   pub holds : inner_of device ≡ inner
   pub failures : failures_of device ≡ 0
@@ -73,7 +74,8 @@ pub record AreOpen {F : Type 0} (first second : Source F) (files : Files F) : Ty
   pub is_first : IsNew first files.first
   pub is_second : IsNew second files.second
 
--- after the first file, which is `first`, the second was opened
+-- after the first file was opened, which is `first`, the second one was to be opened, from the opener's state `between`
+-- to `after`: both files are open and unread, or the second can't be opened
 abbrev pub OpensSecond : {P F : Type 0} → (P → List ℕ → Result F Error → P → Type 0) → Command → (registry : List ℕ)
     → (between after : P) → (first : Source F) → Result (Files F) Fault → Type 0
 OpensSecond calls command registry between after first (Ok files) = (second : Source _)
@@ -82,7 +84,8 @@ OpensSecond calls command registry between after first (Ok files) = (second : So
 OpensSecond calls command registry between after first (Err fault) =
     OpensFile calls between after (reads_input_of command) registry (second_file_of command) (Err fault)
 
--- the files that a command names were opened, the second only where the first could be
+-- the files that a command names were opened, the second one only if the first could be; the opener's state is
+-- `between` after the first
 abbrev pub OpensFiles : {P F : Type 0} → (P → List ℕ → Result F Error → P → Type 0) → Command → (registry : List ℕ)
     → (before after : P) → Result (Files F) Fault → Type 0
 OpensFiles {P} {F} calls command registry before after result =
@@ -103,18 +106,18 @@ pub record Asks {I : Type 0} (input : Stream I) (answer : Result ℕ Error) : Ty
   pub failed : IfErr answer (λ _. HasFailed input.before input.after)
   pub worked : IfOk answer (λ _. failures_of input.after ≡ failures_of input.before)
 
--- what the answer of that read says of the run
+-- what the answer of that read says of the run: it goes on, or it ends with the fault `Read`
 abbrev pub asked : Result ℕ Error → Result (Unit {0}) Fault
 asked (Ok n) = Ok tt
 asked (Err error) = Err (faults.Run tool_faults.Read)
 
--- the input was asked for no bytes, if the command reads it
+-- the input was read into an empty buffer, if the command reads it; if not, it is untouched
 abbrev pub AsksIf : {I : Type 0} → (reads : Bool) → Stream I → Result (Unit {0}) Fault → Type 0
 AsksIf false input result = IsUntouched input × (result ≡ Ok tt)
 AsksIf true input result = (answer : Result ℕ Error) × Asks input answer × (result ≡ asked answer)
 
--- what is done before a command is performed: the input is asked for no bytes, if the command reads it; if it can be
--- read, the files are opened
+-- what is done before a command is performed: if it reads the input, that is read into an empty buffer, to see whether
+-- it can be read; if it can, the files are opened, and else the opener is not called
 pub record Prepares {P F I : Type 0} (calls : P → List ℕ → Result F Error → P → Type 0) (command : Command)
     (registry : List ℕ) (before after : P) (input : Stream I) (result : Result (Files F) Fault) : Type 0 where
   pub asks : Result (Unit {0}) Fault
@@ -122,7 +125,7 @@ pub record Prepares {P F I : Type 0} (calls : P → List ℕ → Result F Error 
   pub unopened : IfErr asks (λ fault. after ≡ before)
   pub goes_on : Then (λ done result. OpensFiles calls command registry before after result) asks result
 
--- the command was performed on its files; or it has none, and the run ends with that fault
+-- the command was performed on its files; or they could not be had, and the run ends with that fault and reads no input
 abbrev pub GoesOnTo : {F I O E : Type 0} → (F → Option (List ℕ)) → Command → Stream I → Stream O → Stream E
     → Outcome → Result (Files F) Fault → Type 0
 GoesOnTo {F} bytes command input output errors outcome (Ok files) =
@@ -130,8 +133,8 @@ GoesOnTo {F} bytes command input output errors outcome (Ok files) =
 GoesOnTo bytes command input output errors outcome (Err fault) =
     IsUntouched input × (outcome.tallies ≡ []) × Finishes (Err fault) output errors outcome.end
 
--- a run of the program: which files it opened, what it read and wrote, and what it came to; `bytes` gives the bytes of a
--- file, where they are known
+-- A run of the program: which files it opened, what it read and wrote, and what it came to. The input is `between` once
+-- the files are opened, and before the command is performed. `bytes` gives the bytes of a file, where they are known.
 pub record RunsProgram {P F I O E : Type 0} (calls : P → List ℕ → Result F Error → P → Type 0)
     (bytes : F → Option (List ℕ)) (command : Command) (registry : List ℕ) (before after : P) (input : Stream I)
     (output : Stream O) (errors : Stream E) (outcome : Outcome) : Type 0 where
@@ -140,7 +143,8 @@ pub record RunsProgram {P F I O E : Type 0} (calls : P → List ℕ → Result F
   pub prepares : Prepares calls command registry before after (stream input.bytes input.before between) files
   pub goes_on : GoesOnTo bytes command (stream input.bytes between input.after) output errors outcome files
 
--- what a run comes to whose words name no command (help, version, wrong usage, no memory)
+-- what a run comes to if its words name no command: help and the version are answers, wrong usage and lack of memory
+-- are faults
 abbrev pub EndsWords : WordsFault → End → Type 0
 EndsWords (words.Help text) end = (line : Vec ℕ Global) × (line.items ≡ string_bytes text) × (end ≡ Ok (answers.Text line))
 EndsWords (words.Version text) end =
@@ -148,7 +152,7 @@ EndsWords (words.Version text) end =
 EndsWords (words.Usage text) end = end ≡ Err (faults.Usage text)
 EndsWords words.OutOfMemory end = end ≡ Err no_memory
 
--- what a run wrote whose words name no command, and what it came to
+-- what a run wrote if its words name no command, and what it came to (`outcome`); it has no tallies
 pub record Reports {O E : Type 0} (fault : WordsFault) (output : Stream O) (errors : Stream E)
     (outcome : Outcome) : Type 0 where
   pub end : End

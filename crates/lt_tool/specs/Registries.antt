@@ -31,7 +31,7 @@ pub record FailsCheck (reading : Reading) (condition : Condition) (number : ℕ)
   pub gave : reading ≡ Ok entries
   pub finding : IsFinding entries condition number
 
--- why the file holds no registry that passes the check; OutOfMemory may be answered of any file
+-- why the file holds no registry that passes the check; OutOfMemory may be answered for any file
 abbrev pub IsRegistryRefusal : Reading → RegistryRefusal → Type 0
 IsRegistryRefusal reading (refusals.Jar fault) =
     (reading ≡ Err (registry_faults.Jar fault)) × (fault.kind ≢ jar_kinds.OutOfMemory)
@@ -45,12 +45,13 @@ abbrev pub IsJudged : Reading → Result (List EntryParts) RegistryRefusal → T
 IsJudged reading (Ok entries) = HoldsRegistry reading entries
 IsJudged reading (Err refusal) = IsRegistryRefusal reading refusal
 
--- a registry is refused, with this fault
+-- the registry with this role is refused, and this is the fault for that
 abbrev pub IsRefusedAs : Role → Reading → Fault → Type 0
 IsRefusedAs role reading fault =
     (refusal : RegistryRefusal) × IsRegistryRefusal reading refusal × (fault ≡ faults.Registry role refusal)
 
--- what a command gets of a file with the registry of this role: its entries, which pass the check, or why it is refused
+-- what a command gets from the file of the registry with this role: its entries, which pass the check, or why it is
+-- refused
 abbrev pub IsHad : Role → Reading → Result (List EntryParts) Fault → Type 0
 IsHad role reading (Ok entries) = HoldsRegistry reading entries
 IsHad role reading (Err fault) = IsRefusedAs role reading fault

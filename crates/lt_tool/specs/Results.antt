@@ -15,11 +15,11 @@ Then Goes (Err fault) result = result ≡ Err fault
 abbrev pub no_memory : Fault
 no_memory = faults.Run tool_faults.OutOfMemory
 
--- a step gives a value of which `P` is true, or a fault of which `Q` is; or memory ran out
+-- a step gives a value of which `P` is true, or a fault of which `Q` is true; or memory ran out
 abbrev pub Gives : {A : Type 0} → (A → Type 0) → (Fault → Type 0) → Result A Fault → Type 0
 Gives P Q (Ok value) = P value
 Gives P Q (Err fault) = Q fault ⊎ (fault ≡ no_memory)
 
--- a text is refused, and `P` is true of the refusal
+-- the fault is that of a text that is refused, and `P` is true of the refusal
 abbrev pub IsTextFault : (TextRefusal → Type 0) → Fault → Type 0
 IsTextFault P fault = (refusal : TextRefusal) × P refusal × (fault ≡ faults.Text refusal)

@@ -1,6 +1,7 @@
--- Which lines a command is to answer, and by what: tags, or rows with a column of tags. `named` says whether a table
--- of codes is named, and `bytes` gives the bytes of a file, where they are known. The `front` of a plan is what was
--- read of the input to find a column by its name.
+-- Which lines a command is to answer, tags or rows with a column of tags, and by what: the ground, which is a registry
+-- and perhaps a table of codes. `named` says whether a table is named, and `bytes` gives the bytes of a file, where
+-- they are known. The `front` of a plan is what was read of the input to find a column by its name. The files were
+-- `before` and are `after`.
 use Rattle.std.specs.Prelude.{◌≡◌, ◌-◌, ℕ, Bool, true, false, List, Option, Some, None, Result, Ok, Err, IfErr, is_some}
 use Rattle.std.specs.Prelude.{string_bytes}
 use Rattle.lt_registry.specs.Parts.{EntryParts}
@@ -36,13 +37,14 @@ abbrev pub given_codes : Result (List Code) TableFault → Result (Option (List 
 given_codes (Ok codes) = Ok (Some codes)
 given_codes (Err fault) = Err (faults.Table fault)
 
--- the table of codes of a file was read, if one is named
+-- the table of codes of a file was read, if one is named; if not, the file was not read
 abbrev pub ReadsCodes : {G : Type 0} → (named : Bool) → Stream G → Result (Option (List Code)) Fault → Type 0
 ReadsCodes false file result = IsUntouched file × (result ≡ Ok None)
 ReadsCodes true file result = (reading : Result (List Code) TableFault)
     × ReadsTable file.bytes file.before file.after reading × (result ≡ given_codes reading)
 
--- the registry of the first file was read, and where it passes the check, the table of the second, if one is named
+-- the registry of the first file was read, and if it passes the check, so was the table of the second, if one is named;
+-- if the registry is refused, the second file is unread
 pub record ReadsGround {F : Type 0} (bytes : F → Option (List ℕ)) (named : Bool) (before after : Files F)
     (result : Result Ground Fault) : Type 0 where
   pub had : Result (List EntryParts) Fault
@@ -52,7 +54,7 @@ pub record ReadsGround {F : Type 0} (bytes : F → Option (List ℕ)) (named : B
       × ReadsCodes named (stream (bytes_of bytes) before.second after.second) given
       × Then (λ codes result. result ≡ Ok (record { checked = R; codes = codes })) given result) had result
 
--- lines that are tags are to be answered
+-- the ground was read, and lines that are tags are to be answered by it; or the ground is refused
 pub record PlansTags {F : Type 0} (bytes : F → Option (List ℕ)) (named : Bool) (before after : Files F)
     (result : Result Plan Fault) : Type 0 where
   pub ground : Result Ground Fault
@@ -76,7 +78,7 @@ abbrev pub of_column_fault : ColumnFault → Fault
 of_column_fault (column_faults.Name line) = faults.Usage line
 of_column_fault (column_faults.Heading fault) = faults.Run fault
 
--- where a column is, by the search for its name
+-- where a column is, or why it is not found, by what the search for its name found
 abbrev pub place_of : Result FoundColumn ColumnFault → Result ColumnPlace Fault
 place_of (Ok found) = Ok (record { number = found.number; front = Some found.front })
 place_of (Err fault) = Err (of_column_fault fault)

@@ -52,13 +52,14 @@ use Rattle.lt_tool.specs.declared.status.Status.TheVariants as status
 
 -- ---- lines that are answered
 
--- the tallies of refused lines: none where a write or memory failed, since it isn't known which answers were written
+-- the tallies of refused lines: none if a write failed or memory ran out, since it isn't known which answers were
+-- written
 abbrev pub tallies_after : Result Counts ToolFault → List Tally → List Tally
 tallies_after (Err tool_faults.Write) tallies = []
 tallies_after (Err tool_faults.OutOfMemory) tallies = []
 tallies_after end tallies = tallies
 
--- what a run over lines came to
+-- what a run over lines came to: how many were answered and refused, or the fault that ended it
 abbrev pub counted : Result Counts ToolFault → End
 counted (Ok counts) = Ok (answers.Lines counts)
 counted (Err fault) = Err (faults.Run fault)
@@ -68,8 +69,8 @@ abbrev pub codes_of : Option (List Code) → List Code
 codes_of None = []
 codes_of (Some codes) = codes
 
--- lines of this form were answered, by the entries of a registry and the codes of a table; `end` and `all` are what
--- the run over them came to, and its tallies
+-- lines of this form were answered, by the entries of a registry and the codes of a table; `end` is what the run over
+-- them came to, and `all` are its tallies, which `tallies` keeps if it is known which answers were written
 pub record RunsOver {I O : Type 0} (ground : Ground) (form : LineForm) (input : Stream I) (output : Stream O)
     (tallies : List Tally) (result : End) : Type 0 where
   pub end : Result Counts ToolFault
@@ -87,8 +88,8 @@ Ahead I = Chain (Bor (List ℕ)) (MutBor (Device I))
 abbrev pub bytes_ahead : {I : Type 0} → (I → Option (List ℕ)) → Ahead I → Option (List ℕ)
 bytes_ahead bytes ahead = chain_remaining (λ front. Some front.now) (λ rest. bytes (inner_of rest.now)) ahead
 
--- lines were answered from a reader of the bytes `front`, and then of the input: it had these bytes `before`
--- (`same`), where those of the input are known
+-- lines were answered from a reader of the bytes `front` and then of the input; the reader is `before` and `after`
+-- that. By `same` it had these bytes to give, if those of the input are known.
 pub record RunsAhead {I O : Type 0} (plan : LinesPlan) (front : List ℕ) (input : Stream I) (output : Stream O)
     (tallies : List Tally) (result : End) : Type 0 where
   pub before : Device (Ahead I)
@@ -104,7 +105,7 @@ AnswersLines plan (Some front) input output tallies result = RunsAhead plan fron
 
 -- ---- lines that are matched
 
--- what a run over lines came to, by how many of them it wrote
+-- what a run over lines came to, by how many of them it wrote: Refused if none
 abbrev pub selected : Result ℕ ToolFault → End
 selected (Ok count) = Ok (answers.Written (if count == 0 then status.Refused else status.Done))
 selected (Err fault) = Err (faults.Run fault)
@@ -114,13 +115,13 @@ abbrev pub PrintsLine : List ℕ → End → Type 0
 PrintsLine line = Gives
     (λ answer. (text : Vec ℕ Global) × (text.items ≡ line ++ 10 ∷ []) × (answer ≡ answers.Text text)) (λ fault. ⊥)
 
--- what a search for a line came to: it is to be printed, if it was found
+-- what a search for a line came to: the line is to be printed; if none was found, the run ends as refused
 abbrev pub IsFound : Result (Option (Vec ℕ Global)) ToolFault → End → Type 0
 IsFound (Ok None) result = result ≡ Ok (answers.Written status.Refused)
 IsFound (Ok (Some line)) result = PrintsLine line.items result
 IsFound (Err fault) result = result ≡ Err (faults.Run fault)
 
--- the lines of the input were searched for the one of which `Finds` is true
+-- the input was searched for the line of which `Finds` is true, and `result` is what the run came to by that
 pub record Searches {I : Type 0} (Finds : Finding) (input : Stream I) (result : End) : Type 0 where
   pub end : Result (Option (Vec ℕ Global)) ToolFault
   pub searches : SearchesLines Finds input.bytes input.before input.after end
@@ -137,19 +138,21 @@ MatchesLines plan None input output result =
 
 -- ---- explanations
 
--- what a run came to that wrote an explanation
+-- what a run that wrote an explanation came to: Done, or the fault that stopped the writing
 abbrev pub written : Result (Unit {0}) ToolFault → End
 written (Ok done) = Ok (answers.Written status.Done)
 written (Err fault) = Err (faults.Run fault)
 
--- the explanation of a text was written, or a front of it where a write or memory failed; or the text is refused
+-- the explanation of a text was written, or a front of it if a write failed or memory ran out; or the text is refused,
+-- and nothing was written
 abbrev pub ExplainsText : {O : Type 0} → List EntryParts → List ℕ → Stream O → End → Type 0
 ExplainsText R text output result =
     ((refusal : TextRefusal) × IsTextRefusal R text refusal × IsUntouched output × (result ≡ Err (faults.Text refusal)))
     ⊎ ((lines : List ℕ) × (end : Result (Unit {0}) ToolFault) × IsExplanationTextOf R text lines
     × WritesAll output lines end × (result ≡ written end))
 
--- what a run came to that judged an explanation
+-- what a run that judged an explanation came to: it passed if the verdict is Right; else the verdict, or the fault that
+-- ended the judging, is its fault
 abbrev pub judged : Result Verdict ToolFault → End
 judged (Ok verdicts.Right) = Ok answers.Passed
 judged (Ok verdict) = Err (faults.Explanation verdict)
@@ -165,12 +168,12 @@ VerifiesText R text input result =
 
 -- ---- objects
 
--- what a run over lines came to that answered them with objects
+-- what a run that answered lines with objects came to: Refused if it refused one of them, Done if not, or its fault
 abbrev pub answered : (refused : Bool) → Result (Unit {0}) ToolFault → End
 answered refused (Ok done) = Ok (answers.Written (status_if refused))
 answered refused (Err fault) = Err (faults.Run fault)
 
--- the lines of the input were answered with JSON objects
+-- the lines of the input were answered with JSON objects; `refused` is whether one of the lines was refused
 pub record AnswersInJson {I O : Type 0} (R : List EntryParts) (input : Stream I) (output : Stream O)
     (result : End) : Type 0 where
   pub refused : Bool

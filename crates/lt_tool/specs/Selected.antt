@@ -26,14 +26,15 @@ use Rattle.lt_tool.specs.declared.plans.Plan.{Plan}
 use Rattle.lt_tool.specs.declared.plans.Plan.TheVariants as plans
 use Rattle.lt_tool.specs.declared.ranges.RefusedRange.{RefusedRange}
 
--- `ranges` are those by which the texts match, in their order
+-- `ranges` are those that the texts are read as, one for each, in their order
 abbrev pub AreRanges : List EntryParts → List (List ℕ) → List RangeParts → Type 0
 AreRanges R [] ranges = ranges ≡ []
 AreRanges R (text ∷ texts) ranges =
     (range : RangeParts) × (more : List RangeParts) × IsExtlangRange R text range × (ranges ≡ range ∷ more)
     × AreRanges R texts more
 
--- the first of the texts that is refused as a range: its number, counted from 1, and why; running out of memory aside
+-- The first of the texts that is refused as a range: its number, counted from 1, and why. The texts `before` it are
+-- read as `ranges`. If the refusal is OutOfMemory, the text itself need not be at fault.
 pub record RefusesRange (R : List EntryParts) (texts : List (List ℕ)) (refused : RefusedRange) : Type 0 where
   pub before : List (List ℕ)
   pub text : List ℕ
@@ -50,7 +51,7 @@ scheme_for matchings.Basic = Some schemes.Basic
 scheme_for matchings.Extended = Some schemes.Extended
 scheme_for matchings.Lookup = None
 
--- the line on the errors for a refused range: the name of the refusal, and the range's number
+-- the line on the standard error for a refused range: the name of the refusal, and the range's number
 abbrev pub range_line : (number : ℕ) → RangeRefusal → List ℕ
 range_line number refusal = codes "! " ++ name_of refusal ++ codes " range " ++ decimal number ++ 10 ∷ []
 
@@ -66,13 +67,13 @@ PlansMatch ranges R = Gives (λ plan. (read : Vec RangeParts Global) × AreRange
     (λ fault. (refused : RefusedRange) × RefusesRange R (map string_bytes ranges.texts.items) refused
     × IsRangeFault refused fault)
 
--- where a header is refused: at the list element of this number, counted from 1; or no number is told, where each
--- element is a range but one of the ranges is refused
+-- where a header is refused: at the list element with this number, counted from 1; no number is told if each element is
+-- a range, but one of the ranges is refused
 abbrev pub header_place : HeaderRefusal → List ℕ
 header_place (header_refusals.NotAHeader fault) = codes " element " ++ decimal fault.place ++ 10 ∷ []
 header_place refusal = codes " header" ++ 10 ∷ []
 
--- the line on the errors for a refused header: the name of the refusal, and where it is
+-- the line on the standard error for a refused header: the name of the refusal, and where the fault is
 abbrev pub header_line : HeaderRefusal → List ℕ
 header_line refusal = codes "! " ++ of_headers.name_of refusal ++ header_place refusal
 

@@ -1,4 +1,5 @@
--- What `show` reads, what it writes of tags, and how it ends.
+-- What `show` reads, what it writes of tags, and how it ends. What it writes for one text is a block, and `refused`
+-- says whether the text of a block is refused.
 use Rattle.std.specs.Prelude.{◌≡◌, ◌⊎◌, ◌||◌, ℕ, Bool, true, false, List, [], ◌∷◌, ◌++◌, map, Result, Ok, Err}
 use Rattle.std.specs.Prelude.{string_bytes}
 use Rattle.std.specs.Borrow.{Bor}
@@ -52,7 +53,8 @@ abbrev pub EndsBlock : List EntryParts → (text head block : List ℕ) → (ref
 EndsBlock R text head block refused =
     (ending : List ℕ) × EndsShown R text ending refused × (block ≡ head ++ (ending ++ 10 ∷ []))
 
--- what is shown of a text that is refused so, after the bytes `head`: the line of the refusal, and an empty line
+-- what is shown of a text with this refusal, after the bytes `head`: the line of the refusal, and an empty line; the
+-- text is refused
 abbrev pub EndsRefused : TextRefusal → (head block : List ℕ) → (refused : Bool) → Type 0
 EndsRefused refusal head block refused =
     (line : List ℕ) × IsRefusalLine refusal line × (block ≡ head ++ (line ++ 10 ∷ [])) × (refused ≡ true)
@@ -128,7 +130,8 @@ GoesOn Others output between (Ok refused) result = (rest : Result Bool ToolFault
     × Others (stream output.bytes between output.after) rest × (result ≡ with_first refused rest)
 GoesOn Others output between (Err fault) result = (output.after ≡ between) × (result ≡ Err fault)
 
--- the block of the first of several texts was written, as `Shows` says, and then those of the others, as `Others` says
+-- the block of the first of several texts was written, as `Shows` says, and then those of the others, as `Others` says;
+-- the output is `between` after the first block
 pub record WritesFirst {O : Type 0} (Shows : (block : List ℕ) → (refused : Bool) → Type 0)
     (Others : Stream O → Result Bool ToolFault → Type 0) (output : Stream O) (result : Result Bool ToolFault) : Type 0 where
   pub between : Device O
@@ -143,7 +146,7 @@ abbrev pub WritesBlocks : {O : Type 0} → ((text block : List ℕ) → (refused
 WritesBlocks Shows [] output result = IsUntouched output × (result ≡ Ok false)
 WritesBlocks Shows (text ∷ texts) output result = WritesFirst (Shows text) (WritesBlocks Shows texts) output result
 
--- what a run came to that showed texts
+-- what a run that showed texts came to: Refused if one of the texts is (`any`), Done if not, or the fault that ended it
 abbrev pub shown : Result Bool ToolFault → End
 shown (Ok any) = Ok (answers.Written (status_if any))
 shown (Err fault) = Err (faults.Run fault)
@@ -159,12 +162,13 @@ ShowsTexts R records tags output result = (any : Result Bool ToolFault)
 abbrev pub PlansShow : Tags → List EntryParts → List (List Field) → Result Plan Fault → Type 0
 PlansShow tags R records result = (t : Bor Tags) × (t.now ≡ tags) × (result ≡ Ok (plans.Show R records t))
 
--- the refusal of a registry that was read with its records is that of the registry alone, or OutOfMemory
+-- the refusal of a file that was to be read as a registry with its records is that of reading only the registry, or
+-- OutOfMemory
 abbrev pub IsKeptRefusal : RecordsFault → RegistryRefusal → Type 0
 IsKeptRefusal (kept_faults.Registry fault) refusal = IsRegistryRefusal (Err fault) refusal
 IsKeptRefusal kept_faults.OutOfMemory refusal = refusal ≡ registry_refusals.OutOfMemory
 
--- the registry is refused, and the run ends with that
+-- the registry is refused, `IsRefusal` is true of the refusal, and the run ends with it
 abbrev pub Refuses : (RegistryRefusal → Type 0) → Result Plan Fault → Type 0
 Refuses IsRefusal result =
     (refusal : RegistryRefusal) × IsRefusal refusal × (result ≡ Err (faults.Registry roles.Only refusal))

@@ -46,7 +46,7 @@ FormsExtlang text R =
     Gives (λ plan. (extlang : List ℕ) × IsExtlangTextOf R text extlang × IsText (extlang ++ 10 ∷ []) plan)
     (IsTextFault (IsTextRefusal R text))
 
--- what is answered to a text: its canonical text, or why it has none
+-- what is answered to one text: its canonical text, or why it has none
 abbrev pub IsTextAnswer : List EntryParts → List ℕ → Result (Vec ℕ Global) TextRefusal → Type 0
 IsTextAnswer R text (Ok canonical) = IsCanonicalTextOf R text canonical.items
 IsTextAnswer R text (Err refusal) = IsTextRefusal R text refusal
@@ -60,7 +60,7 @@ is_passed (refusals.NotATag fault) (Err (refusals.Invalid own)) = true
 is_passed (refusals.NotATag fault) (Err (refusals.ReplacementRepeats variant)) = true
 is_passed refusal (Err own) = false
 
--- two texts are refused so: the fault says whether the first is, or the second
+-- the fault for two texts, one of which is refused with this refusal: it says whether that is the first or the second
 abbrev pub IsPairFault : List EntryParts → List ℕ → TextRefusal → Fault → Type 0
 IsPairFault R first refusal fault = (own : Result (Vec ℕ Global) TextRefusal) × IsTextAnswer R first own
     × (fault ≡ (if is_passed refusal own then faults.OtherText refusal else faults.Text refusal))

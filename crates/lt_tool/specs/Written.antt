@@ -1,5 +1,5 @@
--- What is on the output and the errors of a run after a text was written to one of them. A front of a text is its
--- first bytes, from none to all. A device counts its failures, and has failed where that count rose.
+-- What the standard output or the standard error (`errors`) of a run got when a text was written to it. A front of a
+-- text is its first bytes, from none to all. A device counts its failures, and has failed if that count rose.
 use Rattle.std.specs.Prelude.{◌≡◌, ◌⊎◌, ◌++◌, ℕ, List, Result, Err, IfErr, IfOk}
 use Rattle.std.specs.Io.KnownBytes.{Appends}
 use Rattle.lt_jar.specs.Devices.{HasFailed, failures_of, inner_of}
@@ -10,7 +10,7 @@ use Rattle.lt_stream.specs.declared.faults.ToolFault.{ToolFault}
 use Rattle.lt_stream.specs.declared.faults.ToolFault.TheVariants as faults
 use Rattle.lt_tool.specs.Streams.{IsUntouched, Stream}
 
--- the errors got the text and nothing else, or a front of it if a write failed
+-- the standard error got the text and nothing else, or a front of it if a write failed
 pub record Says {E : Type 0} (errors : Stream E) (text : List ℕ) : Type 0 where
   pub written : List ℕ
   pub appends : Appends (errors.bytes (inner_of errors.before)) (errors.bytes (inner_of errors.after)) written

@@ -1,11 +1,12 @@
-//! What a run answers that did what was asked for.
+//! The answer of a run that was able to do what its command asks for.
 ghost use Rattle.std.specs.Prelude.{◌≡◌};
 ghost use Rattle.lt_tool.specs.Answers as spec;
 
 use crate::status::Status;
 use lt_lines::Counts;
 
-/// What a run answers that did what was asked for: what is still to be printed, and how the run ends.
+/// The answer of a run that was able to do what its command asks for. It says what is still to be printed, and with
+/// which status the run ends.
 #[derive(Drop)]
 pub enum Answer {
     /// These lines are printed.
@@ -14,15 +15,15 @@ pub enum Answer {
     Equal(bool),
     /// An explanation is right, or a registry upgrades another one.
     Passed,
-    /// A registry passes the check and has so many entries, and this is the line that says so.
+    /// A registry passes the check. It has this many entries, and the line says so.
     Entries(usize, Vec<u8>),
-    /// So many lines were answered, and so many of them refused.
+    /// The lines of the input were answered: how many there were, and how many of them were refused.
     Lines(Counts),
-    /// All was written that there is, and the run ends so.
+    /// All that is to be printed was written already, and the run ends with this status.
     Written(Status),
 }
 
-/// The status of a run by whether it refused something, or found nothing.
+/// The status of a run: `Refused` if it refused something, and `Done` if not.
 pub(crate) fn status_if(refused: bool) -> Status
     ensures { result ≡ spec.status_if refused }
 {
@@ -34,7 +35,8 @@ pub(crate) fn status_if(refused: bool) -> Status
 }
 
 impl Answer {
-    /// What is printed of the answer at the end of a run.
+    /// What is printed for the answer at the end of a run: nothing for `Lines` and `Written`, whose output was written
+    /// already.
     pub(crate) fn line(&self) -> &[u8]
         ensures { result.now ≡ spec.line_of self.now }
     {

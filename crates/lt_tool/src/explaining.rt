@@ -29,9 +29,9 @@ fn append_bytes(lines: &mut Vec<u8>, bytes: &[u8]) -> Result<(), OutOfMemory>
     Ok(())
 }
 
-/// Writes the bytes `head`, the lines of what is left of an explanation, and the bytes `tail`, and holds few of the lines in
-/// memory at a time. The steps that are left must lead, one by one, from the tag where the explanation stands to its end.
-/// Refused if a write fails or memory runs out.
+/// Writes the bytes `head`, the lines of `left`, which is the part of an explanation that is still to be written, and
+/// the bytes `tail`. Few of the lines are in memory at a time. The steps of `left` must lead, one after another, from
+/// the tag that it has reached (`here`) to its last tag (`end`). Refused if a write fails or memory runs out.
 pub(crate) fn write_lines<L: Lookup, O: Write>(
     alloc: Global,
     head: Vec<u8>,
@@ -53,7 +53,7 @@ pub(crate) fn write_lines<L: Lookup, O: Write>(
     write_text(&lines, output)
 }
 
-/// What a run came to that wrote an explanation: it is done, or the write failed.
+/// What a run came to that wrote an explanation: it is done, or it ended with the fault that stopped the writing.
 fn written(end: Result<(), ToolFault>) -> Result<Answer, Fault>
     ensures { result ≡ spec.written end }
 {
@@ -63,7 +63,8 @@ fn written(end: Result<(), ToolFault>) -> Result<Answer, Fault>
     }
 }
 
-/// Writes the explanation of a text by a registry; or gives its refusal.
+/// Writes the explanation of a text by a registry. If the text is no tag, or its tag has no canonical form, nothing is
+/// written and the refusal is given. `Err` also if a write fails or memory runs out.
 pub(crate) fn explain<L: Lookup, O: Write>(
     alloc: Global,
     checked: &Checked<L>,

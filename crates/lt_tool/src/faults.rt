@@ -13,7 +13,7 @@ use lt_stream::ToolFault;
 use lt_tag::OutOfMemory;
 use lt_upgrade::UpgradeCondition;
 
-/// Which of its registries a command means.
+/// Which of the registries of a command is meant.
 #[derive(Clone, Copy, Debug, PartialEq, Eq)]
 pub enum Role {
     /// The only one.
@@ -25,7 +25,7 @@ pub enum Role {
 }
 
 impl Role {
-    /// What is printed before the line of a refusal, to tell two registries apart.
+    /// What the line of a refused registry begins with, to tell two registries apart.
     pub(crate) fn mark(self) -> &'static str
         ensures { result.now ≡ spec.mark_of self }
     {
@@ -37,8 +37,8 @@ impl Role {
     }
 }
 
-/// How a run ends that refuses a table of codes for a fault of this kind: failed if a read failed, else as for a
-/// refused registry.
+/// The status of a run that refuses a table of codes for a fault of this kind: `Failed` if a read failed, and
+/// `RegistryRefused` for every other kind.
 fn table_end(kind: TableFaultKind) -> Status
     ensures { result ≡ spec.table_end kind }
 {
@@ -53,27 +53,28 @@ fn table_end(kind: TableFaultKind) -> Status
 pub enum Fault {
     /// A text is no tag, or its tag is refused.
     Text(TextRefusal),
-    /// Of two texts the second is no tag, or its tag is refused, and the first is not so.
+    /// The second of two texts is no tag, or its tag is refused. The first one is a tag, and if the second is a tag
+    /// too, the first has a canonical form.
     OtherText(TextRefusal),
     /// A registry is refused.
     Registry(Role, RegistryRefusal),
     /// A table of codes is refused.
     Table(TableFault),
-    /// The newer registry does not meet this condition, by the record of this number: `NoNewVariantLanguage` by one of
-    /// its own, each other by one of the older registry.
+    /// The newer registry does not upgrade the older one: this condition fails at the record with this number. It is a
+    /// record of the newer registry for `NoNewVariantLanguage`, and of the older one for every other condition.
     Upgrade(UpgradeCondition, u32),
-    /// Lines explain no tag, and this is what is wrong.
+    /// The lines of the input are not an explanation of the tag, and this is what is wrong with them.
     Explanation(Verdict),
-    /// The words can't be followed, as this text says, which ends with a line feed.
+    /// The words of the command line can't be followed. The text says why, and ends with a line feed.
     Usage(String),
-    /// A file can't be opened. The line says which and why, where there was memory for it.
+    /// A file can't be opened. The line says which file and why; it is None if there was no memory for it.
     File(Option<String>),
     /// A read or a write failed, or memory ran out.
     Run(ToolFault),
 }
 
 impl Fault {
-    /// How the run ends.
+    /// The status of a run that ends with this fault.
     pub fn status(&self) -> Status
         ensures { result ≡ spec.status_of self.now }
     {
@@ -87,9 +88,9 @@ impl Fault {
         }
     }
 
-    /// The name by which the manual explains the fault, for example `BadByte` or `C2`. Wrong usage has none, since
-    /// its text says all. It has no contract: it is for what people are told after a run, whose texts no clause
-    /// states.
+    /// The name by which the manual explains the fault, for example `BadByte` or `C2`. None for wrong usage, whose text
+    /// says all. The function has no contract: it is only for the texts that people are told after a run, which no
+    /// clause states.
     pub fn name(&self) -> Option<&'static str> {
         Some(match self {
             Fault::Text(refusal) | Fault::OtherText(refusal) => refusal.name(),
@@ -122,8 +123,8 @@ impl Fault {
 impl From<TextRefusal> for Fault {
     ghost from_gives = { λ refusal fault. fault ≡ faults.Text refusal };
 
-    /// The fault of a refused text, where `?` ends a call. Only `equal` has a second text, and it says which is
-    /// refused.
+    /// The fault of a refused text, so that `?` can give it. `equal` does not use it: it has two texts, and says which
+    /// of them is refused.
     fn from(refusal: TextRefusal) -> Fault {
         Fault::Text(refusal)
     }
@@ -132,7 +133,7 @@ impl From<TextRefusal> for Fault {
 impl From<OutOfMemory> for Fault {
     ghost from_gives = { λ _ fault. fault ≡ faults.Run tool_faults.OutOfMemory };
 
-    /// The fault of a call that memory ran out for, where `?` ends it.
+    /// The fault of a run for which memory ran out, so that `?` can give it.
     fn from(_error: OutOfMemory) -> Fault {
         Fault::Run(ToolFault::OutOfMemory)
     }

@@ -1,4 +1,4 @@
-//! An Accept-Language header that is read from words.
+//! The Accept-Language header of a command line: it is read as preferences, or it is refused.
 ghost use Rattle.std.specs.Prelude.{◌≡◌, IfOk, string_bytes};
 ghost use Rattle.lt_tool.specs.Registries.{ByRegistry};
 ghost use Rattle.lt_tool.specs.Selected as spec;
@@ -30,8 +30,8 @@ fn header_line(alloc: Global, refusal: &HeaderRefusal) -> Result<String, AllocEr
     }
 }
 
-/// The fault of a refused header: wrong usage, with the line that tells it; or of memory that ran out, for the header
-/// or for this line.
+/// The fault with which a run ends that refuses a header. It is wrong usage, with the line that tells of the refusal.
+/// If memory ran out, for the header or for that line, the fault is `ToolFault::OutOfMemory` instead.
 fn fault_of(alloc: Global, refusal: &HeaderRefusal) -> Fault
     ensures { IsHeaderFault refusal.now result }
 {
@@ -44,8 +44,8 @@ fn fault_of(alloc: Global, refusal: &HeaderRefusal) -> Fault
     }
 }
 
-/// The plan to print the line of the input that a header is served, by the registry of a file; or why the registry or the
-/// header is refused.
+/// The plan to print the line of the input that is served for a header, by the registry of a file. Refused if the
+/// registry or the header is, or memory runs out.
 pub(crate) fn plan_serve<'a, F: Read>(
     alloc: Global,
     header: &[u8],

@@ -1,10 +1,10 @@
 //! The program `langtag`: what its commands read and print, and what a run of them came to. A program of your own
 //! begins with the crate `bcp47`.
 //!
-//! In clauses `stream F.remaining file.old file.new` is a file before and after a call, with `F.remaining`, which
-//! gives the bytes that are left in it, where they are known. Of an output `O.contents` gives the bytes that it took.
-//! `L.listed checked.now` are the entries of a registry, `R` in definitions. `ByRegistry` says that the registry of a
-//! command is read first, and that the rest follows by its entries if they pass the check.
+//! In clauses `stream F.remaining file.old file.new` is a file before and after a call; `F.remaining` gives the bytes
+//! that are left in the file, if they are known. For an output, `O.contents` gives the bytes that were written to it.
+//! `L.listed checked.now` are the entries of a registry, which definitions call `R`. `ByRegistry` says that a command
+//! reads its registry first, and goes on with the entries if they pass the check.
 #![tactic(auto)]
 
 mod answers;

@@ -12,12 +12,12 @@ use lt_lines::Tallies;
 pub struct Outcome {
     /// The answer, or what was refused or failed.
     pub end: Result<Answer, Fault>,
-    /// How many lines were refused by each fault, of those that are known to be answered.
+    /// How many lines were refused for each fault. Only lines that are known to be answered are counted.
     pub tallies: Tallies,
 }
 
 impl Outcome {
-    /// How the run ended.
+    /// The status with which the run ended.
     pub fn status(&self) -> Status
         ensures { result ≡ spec.status_at self.now.end }
     {

@@ -24,23 +24,23 @@ use lt_words::{Command, Tags};
 use std::alloc::Global;
 use std::io::Read;
 
-/// By what lines are answered: a registry, and a table of codes if one is named.
+/// What lines are answered by: a registry, and a table of codes if the command names one.
 #[derive(Drop)]
 pub(crate) struct Ground {
     /// The entries of the registry, which passes the check.
     pub(crate) checked: Checked<SortedTable>,
-    /// The codes of the table.
+    /// The codes of the table; None if no table is named.
     pub(crate) codes: Option<CodeTable>,
 }
 
 /// Lines of the input that are to be answered.
 #[derive(Drop)]
 pub(crate) struct LinesPlan {
-    /// By what they are answered.
+    /// What they are answered by.
     pub(crate) ground: Ground,
-    /// What each of them is.
+    /// How the lines are read: each as a tag or as a row of TSV, or together as records of CSV.
     pub(crate) form: LineForm,
-    /// The bytes of the input that were read to find a column by its name, if it was looked for.
+    /// The bytes of the input that were read already to find a column by its name; None if none was looked for.
     pub(crate) front: Option<Vec<u8>>,
 }
 
@@ -49,13 +49,13 @@ pub(crate) struct LinesPlan {
 pub(crate) struct MatchPlan {
     /// The entries of the registry by which they are matched.
     pub(crate) checked: Checked<SortedTable>,
-    /// The scheme of filtering; without one the ranges look one line up.
+    /// The scheme of filtering (RFC 4647, 3.3). None is lookup (3.4), which gives one line at most.
     pub(crate) scheme: Option<Scheme>,
     /// The ranges.
     pub(crate) ranges: Vec<LanguageRange>,
 }
 
-/// What is left to do once the files that a command names are read and judged.
+/// A plan: what is left to do once the files that a command names are read and judged.
 #[derive(Drop)]
 pub(crate) enum Plan<'a> {
     /// To print this answer.
@@ -64,7 +64,7 @@ pub(crate) enum Plan<'a> {
     Lines(LinesPlan),
     /// To match lines.
     Match(MatchPlan),
-    /// To print the line that preferences serve, by a registry.
+    /// To print the line of the input that is served for these preferences, by a registry.
     Serve(Checked<SortedTable>, Vec<Preference>),
     /// To explain this text by a registry.
     Explain(Checked<SortedTable>, &'a [u8]),
@@ -72,11 +72,12 @@ pub(crate) enum Plan<'a> {
     Verify(Checked<SortedTable>, &'a [u8]),
     /// To show these tags by a registry and its records.
     Show(Checked<SortedTable>, Jar, &'a Tags),
-    /// To answer the lines of the input by objects of JSON.
+    /// To answer each line of the input with a JSON object.
     Json(Checked<SortedTable>),
 }
 
-/// The plan to answer the lines of the input by objects of JSON, by the registry of a file; or why the registry is refused.
+/// The plan to answer each line of the input with a JSON object, by the registry of a file; or why the registry is
+/// refused.
 fn plan_json<'a, F: Read>(alloc: Global, file: &mut Device<F>) -> Result<Plan<'a>, Fault>
     ensures { PlansJson (stream F.remaining file.old file.new) result }
 {
@@ -84,8 +85,8 @@ fn plan_json<'a, F: Read>(alloc: Global, file: &mut Device<F>) -> Result<Plan<'a
     Ok(Plan::Json(checked))
 }
 
-/// Reads and judges the files that a command names, and finds the column of rows in the heading of the input if the command
-/// names it. Gives what is then left to do, or what was refused.
+/// Reads and judges the files that a command names. If the command gives a column of rows by its name, the column is
+/// found in the heading of the input. Gives what is then left to do, or what was refused or failed.
 pub(crate) fn make_plan<'a, F: Read, I: Read>(
     alloc: Global,
     command: &'a Command,

@@ -23,7 +23,8 @@ use lt_upgrade::UpgradeCondition;
 use std::alloc::Global;
 use std::io::Write;
 
-/// The line that is printed for a text that is refused. `TextRefusal::OutOfMemory` has no line, and is an `Err` here too.
+/// The line that is printed for a text that is refused, for example `! BadByte 1`. `Err` if memory runs out, and for
+/// `TextRefusal::OutOfMemory`, which has no line.
 fn refusal_line(alloc: Global, refusal: &TextRefusal) -> Result<Vec<u8>, OutOfMemory>
     ensures { IfOk result (λ line. IsRefusalLine refusal.now line.items) }
 {
@@ -32,8 +33,8 @@ fn refusal_line(alloc: Global, refusal: &TextRefusal) -> Result<Vec<u8>, OutOfMe
     Ok(line)
 }
 
-/// The line that is printed for a registry that is refused, for example `jar BadLine line 3`. `RegistryRefusal::OutOfMemory`
-/// has no line, and is an `Err` here too.
+/// The line that is printed for a registry that is refused, for example `jar BadLine line 3`. `Err` if memory runs out,
+/// and for `RegistryRefusal::OutOfMemory`, which has no line.
 fn registry_line(
     alloc: Global,
     role: Role,
@@ -60,8 +61,8 @@ fn registry_line(
     Ok(line.into_bytes())
 }
 
-/// The line that is printed for a table of codes that is refused, for example `codes BadRow line 2`.
-/// `TableFaultKind::OutOfMemory` has no line, and is an `Err` here too.
+/// The line that is printed for a table of codes that is refused, for example `codes BadRow line 2`. `Err` if memory
+/// runs out, and for `TableFaultKind::OutOfMemory`, which has no line.
 fn table_line(alloc: Global, fault: &TableFault) -> Result<Vec<u8>, OutOfMemory>
     ensures { IfOk result (λ line. faults.IsTableLine fault.now line.items) }
 {
@@ -86,7 +87,8 @@ fn upgrade_line(
     Ok(line.into_bytes())
 }
 
-/// The line that is printed for a verdict: `ok`, or what is wrong, with the number of the step where there is one.
+/// The line that is printed for a verdict on an explanation: `ok`, or what is wrong, for example `! BadStep 2` with the
+/// number of the step. Refused if memory runs out.
 fn verdict_line(alloc: Global, verdict: Verdict) -> Result<Vec<u8>, OutOfMemory>
     ensures { IfOk result (λ line. line.items ≡ faults.verdict_line verdict) }
 {
@@ -99,7 +101,8 @@ fn verdict_line(alloc: Global, verdict: Verdict) -> Result<Vec<u8>, OutOfMemory>
     Ok(line.into_bytes())
 }
 
-/// The line that is printed for a fault. It is empty for a fault that is told on the errors instead.
+/// The line that is printed for a fault. It is empty for a fault that is told on the standard error instead: wrong
+/// usage, a file that can't be opened, or a run that failed. `Err` if memory ran out, for the line or before it.
 fn line_of(alloc: Global, fault: &Fault) -> Result<Vec<u8>, OutOfMemory>
     ensures { IfOk result (λ line. IsFaultLine fault.now line.items) }
 {
@@ -126,7 +129,7 @@ fn print_fault<O: Write>(
 }
 
 /// Prints the answer, or the line of the fault, if it has one. `Err` means that this could not be printed, since the write
-/// failed or memory ran out for the line; a run that ended with a fault is no `Err` here.
+/// failed or memory ran out for the line. If the fault was printed, that is `Ok`.
 fn print_end<O: Write>(
     alloc: Global,
     end: &Result<Answer, Fault>,
@@ -140,7 +143,8 @@ fn print_end<O: Write>(
     }
 }
 
-/// What a run comes to once its end was to be printed: that end if it was printed, or else the fault of printing.
+/// What a run came to. `end` is what it came to before that was printed, and `printed` is what came of printing it: the
+/// run comes to `end` if it was printed, and else to the fault of printing.
 fn end_after(end: Result<Answer, Fault>, printed: Result<(), ToolFault>) -> Result<Answer, Fault>
     ensures { result ≡ spec.end_after end printed }
 {
@@ -150,7 +154,7 @@ fn end_after(end: Result<Answer, Fault>, printed: Result<(), ToolFault>) -> Resu
     }
 }
 
-/// Writes a text to the errors, up to the first write that fails, which their device counts.
+/// Writes a text to the standard error, up to the first write that fails. Its device counts that failure.
 fn say<E: Write>(text: &[u8], errors: &mut Device<E>)
     ensures { Says (stream E.contents errors.old errors.new) text.now }
 {
@@ -158,7 +162,7 @@ fn say<E: Write>(text: &[u8], errors: &mut Device<E>)
     let _ = write_text(text, errors);
 }
 
-/// Names what ended a run on `errors`, up to the first write that fails.
+/// Writes the fault that ended a run to the standard error, for example `! Read`, up to the first write that fails.
 fn say_fault<E: Write>(fault: ToolFault, errors: &mut Device<E>)
     ensures { Says (stream E.contents errors.old errors.new) (fault_said fault) }
 {
@@ -166,7 +170,8 @@ fn say_fault<E: Write>(fault: ToolFault, errors: &mut Device<E>)
     let _ = write_fault(fault, errors);
 }
 
-/// Tells on `errors` what failed, or how the words are wrong. Of a fault whose line is printed it tells nothing.
+/// Tells on the standard error what failed, or how the words are wrong. It writes nothing for a fault whose line is
+/// printed on the standard output.
 fn say_of<E: Write>(fault: &Fault, errors: &mut Device<E>)
     ensures { SaysFault fault.now (stream E.contents errors.old errors.new) }
 {
@@ -179,7 +184,8 @@ fn say_of<E: Write>(fault: &Fault, errors: &mut Device<E>)
     }
 }
 
-/// Tells on `errors` what a run came to, if it failed or its words are wrong.
+/// Tells on the standard error what a run came to, if it failed or its words are wrong. It writes nothing for any other
+/// end.
 fn say_end<E: Write>(end: &Result<Answer, Fault>, errors: &mut Device<E>)
     ensures { SaysEnd end.now (stream E.contents errors.old errors.new) }
 {
@@ -189,8 +195,9 @@ fn say_end<E: Write>(end: &Result<Answer, Fault>, errors: &mut Device<E>)
     }
 }
 
-/// Ends a run: prints the answer, or the line of what was refused, or tells on `errors` what failed. Gives what the run came
-/// to. If a write failed or memory ran out while it was printed, that is what the run came to.
+/// Ends a run: prints the answer or the line of what was refused on `output`, or tells on `errors`, the standard error,
+/// what failed. Gives what the run came to, which is the fault of printing if a write to `output` failed or memory ran
+/// out.
 pub(crate) fn finish<O: Write, E: Write>(
     alloc: Global,
     end: Result<Answer, Fault>,

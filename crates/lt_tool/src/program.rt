@@ -1,6 +1,6 @@
-//! A run of the program, from its command to what it came to. The opener opens the files that a command names, and
-//! must be callable at any time, with any path (`P.IsAlwaysCallable`). In clauses `CalledAt P.FnMut` says what one
-//! call of it did, by its state before, the path, the answer and its state after.
+//! A run of the program, from its command to what it came to. The opener is a function that opens the files that a
+//! command names. It must be callable at any time, with any path (`P.IsAlwaysCallable`). In clauses `CalledAt P.FnMut`
+//! relates its state before a call, the path, its answer and its state after the call.
 ghost use Rattle.std.specs.Prelude.{◌≡◌};
 ghost use Rattle.std.specs.Fn.{CalledAt};
 ghost use Rattle.std.specs.Option.{option_map};
@@ -27,8 +27,8 @@ use std::io::{self, Read, Write};
 /// The path of the standard input.
 const INPUT_PATH: &str = "/dev/stdin";
 
-/// The path of the file that a name means. `-` is the standard input, unless `is_taken`, which says that the command reads
-/// the standard input for itself. `@` is the file with the path `registry`.
+/// The path of the file that a name on the command line means. `@` means the path `registry`. `-` means the standard
+/// input, unless `is_taken` says that the command reads that for its lines. Every other name is a path.
 pub fn path_of<'a>(name: &'a str, is_taken: bool, registry: &'a str) -> &'a str
     ensures { IsPath is_taken registry.entry.now name.entry.now result.now }
 {
@@ -41,8 +41,8 @@ pub fn path_of<'a>(name: &'a str, is_taken: bool, registry: &'a str) -> &'a str
     }
 }
 
-/// The fault of a file that can't be opened, with a line for a person that says which and why; or of memory that ran
-/// out for that.
+/// The fault of a file that can't be opened, with a line for people that says which file and why, if there is memory
+/// for the line. If opening failed because memory ran out, the fault is `ToolFault::OutOfMemory`.
 fn file_fault(alloc: Global, path: &str, error: &io::Error) -> Fault
     ensures { IsFileFault (error_kind error.now) result }
 {
@@ -71,7 +71,8 @@ fn open_named<F: Read + Drop, P: FnMut(&str) -> io::Result<F>>(
     }
 }
 
-/// Opens the file of this name, if there is a name. Refused if the opener gives an error.
+/// Opens the file of this name. If there is no name, the opener is not called, and the source is empty. `is_taken` and
+/// `registry` are as in `open_named`. Refused if the opener gives an error.
 fn open_file<F: Read + Drop, P: FnMut(&str) -> io::Result<F>>(
     alloc: Global,
     opener: &mut P,
@@ -88,8 +89,8 @@ fn open_file<F: Read + Drop, P: FnMut(&str) -> io::Result<F>>(
     }
 }
 
-/// Opens the files that a command names, in the order in which they are read. Refused at the first file for which the
-/// opener gives an error.
+/// Opens the files that a command names, in the order in which they are read. `registry` is the path that `@` means.
+/// Refused at the first file for which the opener gives an error.
 fn open_files<F: Read + Drop, P: FnMut(&str) -> io::Result<F>>(
     alloc: Global,
     command: &Command,
@@ -108,8 +109,8 @@ fn open_files<F: Read + Drop, P: FnMut(&str) -> io::Result<F>>(
     })
 }
 
-/// Asks the input for no bytes, if a command reads it. Refused with `Read` if the input can't be read, for example if it is
-/// closed.
+/// If a command reads the input, makes one read of it into an empty buffer, to see whether it can be read. Refused with
+/// `Read` if it can't, for example because it is closed.
 fn ask<I: Read>(command: &Command, input: &mut Device<I>) -> Result<(), Fault>
     ensures { AsksIf (reads_input_of command.now) (stream I.remaining input.old input.new) result }
 {
@@ -122,9 +123,9 @@ fn ask<I: Read>(command: &Command, input: &mut Device<I>) -> Result<(), Fault>
     }
 }
 
-/// Opens the files that a command names. If the command reads the input, the input is asked for no bytes first, so
-/// that a closed input is not taken for a file that is opened in its place. Refused if the input can't be read or the
-/// opener gives an error.
+/// Opens the files that a command names; `registry` is the path that `@` means. If the command reads the input, a read
+/// into an empty buffer is made first, to see that the input is not closed: a file that is opened would take the place
+/// of a closed input. Refused if the input can't be read or the opener gives an error.
 fn prepare<F: Read + Drop, P: FnMut(&str) -> io::Result<F>, I: Read>(
     alloc: Global,
     command: &Command,
@@ -139,8 +140,8 @@ fn prepare<F: Read + Drop, P: FnMut(&str) -> io::Result<F>, I: Read>(
     open_files(alloc, command, opener, registry)
 }
 
-/// Does what a command asks for, and gives its answer, which is not printed yet, or what was refused or failed. `tallies` is
-/// set to what was refused of lines that were answered.
+/// Does what a command asks for, and gives its answer, which is still to be printed, or what was refused or failed. If
+/// the command answers tags or rows, `tallies` is set to how many lines were refused for each fault.
 fn answer_of<F: Read, I: Read, O: Write>(
     alloc: Global,
     command: &Command,
@@ -156,7 +157,7 @@ fn answer_of<F: Read, I: Read, O: Write>(
     run(alloc, plan, input, output, tallies)
 }
 
-/// Does what a command asks for, as [`perform`] does, and gives what it came to.
+/// Does what a command asks for, as [`perform`] does, and gives the outcome instead of its exit status.
 fn carry_out<F: Read, I: Read, O: Write, E: Write>(
     alloc: Global,
     command: &Command,
@@ -181,18 +182,19 @@ fn carry_out<F: Read, I: Read, O: Write, E: Write>(
 
 /// Does what a command asks for, and answers the exit status, 0 to 4.
 ///
-/// `files` are those that the command names. A file that it does not name is left as it is, and so is the second file if the
-/// first one is refused. A registry is read record by record, up to its end or the first line at fault. Most answers are
-/// printed at once. `explain` prints its lines as they are made; `show` prints tag by tag, and the steps of a tag as they are
-/// made. `canon`, `codes`, `tsv`, `csv` and `json` answer the lines or records of the input as they come. `match` prints
-/// those of its lines that a range matches, or the one that lookup finds or that serves a header. `verify` reads lines up to
-/// the first that settles its answer.
+/// `files` are those that the command names. A file that it does not name is left as it is, and so is the second file
+/// if the first one is refused. A registry is read record by record, up to its end or the first line at fault. Most
+/// answers are printed at once. `explain` prints its lines as they are made; `show` prints tag by tag, and the steps of
+/// a tag as they are made. `canon`, `codes`, `tsv`, `csv` and `json` answer the lines or records of the input as they
+/// come. `match` prints the lines of the input that a range matches, or the one that lookup finds or that is served for
+/// a header. `verify` reads lines up to the first that settles its answer.
 ///
-/// If a read of a file fails or is one too many, that is answered as a fault of the file. If a write to the output, a read of
-/// the input or an allocation fails, or the input ends within quotes, that is named on the errors; if a write there fails
-/// too, the device alone counts it. Where a column has a name, it is found in the heading of the input before a byte is
-/// written. If no column has that name, or more than one has it, that is told on the errors, and the status is 3. The status
-/// is 3 too if a range or the header of `match` is refused; then no line is read.
+/// If a read of a file fails or is one too many, that is answered as a fault of the file. If a write to the output, a
+/// read of the input or an allocation fails, or the input is at fault (it ends within quotes, for example), that is
+/// named on the standard error. A write to the standard error that fails is counted by its device and changes nothing
+/// else. A column that is given by its name is found in the heading of the input before a byte is written. If no column
+/// has that name, or more than one has it, that is told on the standard error, and the status is 3. The status is 3 too
+/// if a range or the header of `match` is refused; then no line is read.
 pub fn perform<F: Read, I: Read, O: Write, E: Write>(
     alloc: Global,
     command: &Command,
@@ -208,12 +210,12 @@ pub fn perform<F: Read, I: Read, O: Write, E: Write>(
 
 /// Runs the program by a command, and gives what the run came to.
 ///
-/// `opener` opens the files that the command names, in the order in which they are read: a registry before a table of codes,
-/// and an older registry before a newer one. It must be callable at any time, with any path. A file that can't be opened ends
-/// the run by `! File` on the errors, and the status 4. The name `@` is the file with the path `registry`. The name `-` is
-/// the standard input, if the command doesn't read that. If it does, the input is asked for no bytes before a file is opened,
-/// so that a closed input is not taken for a file that is opened in its place. A closed input ends the run by `! Read`, and
-/// the status 4. Then all is done as by [`perform`].
+/// `opener` opens the files that the command names, in the order in which they are read: a registry before a table of
+/// codes, and an older registry before a newer one. It must be callable at any time, with any path. A file that can't
+/// be opened ends the run with `! File` on the standard error and the status 4. The name `@` is the file with the path
+/// `registry`. The name `-` is the standard input, if the command doesn't read that. If it does, the input is read into
+/// an empty buffer before a file is opened, since a file would take the place of a closed input. A closed input ends
+/// the run with `! Read` on the standard error and the status 4. Then all is done as by [`perform`].
 pub fn run_program<F: Read + Drop, P: FnMut(&str) -> io::Result<F>, I: Read, O: Write, E: Write>(
     alloc: Global,
     command: &Command,
@@ -234,8 +236,8 @@ pub fn run_program<F: Read + Drop, P: FnMut(&str) -> io::Result<F>, I: Read, O: 
     }
 }
 
-/// What a run comes to if its words name no command. Help and the version are to be printed. Wrong usage is refused, and
-/// where memory ran out, the run failed.
+/// What a run comes to if its words name no command. Help and the version are answers to be printed. Wrong usage and
+/// lack of memory are faults.
 fn end_of_words(fault: WordsFault) -> Result<Answer, Fault>
     ensures { EndsWords fault result }
 {
@@ -247,9 +249,9 @@ fn end_of_words(fault: WordsFault) -> Result<Answer, Fault>
     }
 }
 
-/// Says why the words are no command, and gives what the run came to (`ends`); the input is not read (`unread`). Help
-/// and the version are printed, and any other fault is told on the errors. The status is 0 for help and the version,
-/// 3 for words that name no command, and 4 where memory ran out or a write failed.
+/// Says why the words are no command, and gives what the run came to (`ends`). The input is not read (`unread`). Help
+/// and the version are printed; wrong usage and lack of memory are told on the standard error. The status is 0 for help
+/// and the version, 3 for wrong usage, and 4 if memory ran out or a write to the standard output failed.
 pub fn report<I, O: Write, E: Write>(
     alloc: Global,
     fault: WordsFault,

@@ -1,4 +1,4 @@
-//! Language ranges that are read from words.
+//! The language ranges of a command line: each is read by a registry, or it is refused.
 ghost use Rattle.std.specs.Prelude.{◌≡◌, ◌++◌, ◌∷◌, [], IfErr, IfOk, OnOk, map, string_bytes};
 ghost use Rattle.lt_range.specs.Matched.{IsExtlangRange};
 ghost use Rattle.lt_range.specs.Refusals.{IsRangeRefusal};
@@ -30,8 +30,8 @@ pub(crate) struct RefusedRange {
     refusal: RangeRefusal,
 }
 
-/// Puts a range after the others. Refused only where memory runs out. The refusal names `number`, which is that of the range,
-/// counted from 1.
+/// Puts a range after the others. Refused only if memory runs out; the refusal has the range's `number`, counted from
+/// 1.
 fn push_range(
     ranges: &mut Vec<LanguageRange>,
     number: usize,
@@ -50,8 +50,7 @@ fn push_range(
     }
 }
 
-/// The range that a text is read as, or why the text is refused. The refusal names `number`, which is that of the text,
-/// counted from 1.
+/// The range that a text is read as, or why the text is refused. The refusal has the text's `number`, counted from 1.
 fn read_range<L: Lookup>(
     alloc: Global,
     checked: &Checked<L>,
@@ -68,7 +67,7 @@ fn read_range<L: Lookup>(
     }
 }
 
-/// The ranges that the texts are read as; or the first text that is refused, by its number, counted from 1.
+/// The ranges that the texts are read as; or the number of the first text that is refused, counted from 1, and why.
 fn read_ranges<L: Lookup>(
     alloc: Global,
     checked: &Checked<L>,
@@ -87,7 +86,7 @@ fn read_ranges<L: Lookup>(
     Ok(ranges)
 }
 
-/// The scheme of filtering that the words ask for; None is lookup.
+/// The scheme of filtering (RFC 4647, 3.3) that the words ask for. None if they ask for lookup (3.4).
 fn scheme_of(matching: Matching) -> Option<Scheme>
     ensures { result ≡ scheme_for matching }
 {
@@ -107,8 +106,8 @@ fn range_line(alloc: Global, refused: &RefusedRange) -> Result<String, AllocErro
     format!(in alloc; "! {name} range {number}\n")
 }
 
-/// The fault of a refused range: wrong usage, with the line that tells it; or of memory that ran out, for the range
-/// or for this line.
+/// The fault with which a run ends that refuses a range. It is wrong usage, with the line that tells of the refusal. If
+/// memory ran out, for the range or for that line, the fault is `ToolFault::OutOfMemory` instead.
 fn fault_of(alloc: Global, refused: &RefusedRange) -> Fault
     ensures { IsRangeFault refused.now result }
 {
@@ -121,7 +120,8 @@ fn fault_of(alloc: Global, refused: &RefusedRange) -> Fault
     }
 }
 
-/// The plan to match the lines of the input by ranges, by the registry of a file; or why the registry or a range is refused.
+/// The plan to match the lines of the input by ranges and the registry of a file; or why the registry or a range is
+/// refused.
 pub(crate) fn plan_match<'a, F: Read>(
     alloc: Global,
     ranges: &Ranges,

@@ -1,5 +1,5 @@
-//! The registry that a command names. A file is first read as entries or a fault, its reading, and then judged: its
-//! entries pass the check, or the registry is refused.
+//! The registry that a command names. A file is first read: its reading is its entries, or a fault. Then it is judged:
+//! its entries pass the check, or the registry is refused.
 ghost use Rattle.std.specs.Prelude.{◌≡◌, Err, Ok};
 ghost use Rattle.lt_tool.specs.Registries as spec;
 ghost use Rattle.lt_tool.specs.Registries.{IsJudged, IsRegistryRefusal, ReadsFile, ReadsJudged};
@@ -18,16 +18,17 @@ use std::io::Read;
 pub enum RegistryRefusal {
     /// The file is not in the format of a registry, or was not read to its end.
     Jar(JarFault),
-    /// A record gives no entry.
+    /// A record of the file can't be read as an entry.
     Record(RecordFault),
-    /// The entries do not pass the check.
+    /// The entries do not pass the check: a condition of it fails at a record.
     Check(Finding),
     /// Memory ran out.
     OutOfMemory,
 }
 
 impl RegistryRefusal {
-    /// How a run ends that has refused a registry: failed if a read failed or was one too many, else as a refused registry.
+    /// The status of a run that refuses a registry: `Failed` if a read failed or was one too many, else
+    /// `RegistryRefused`.
     pub(crate) fn status(&self) -> Status
         ensures { result ≡ spec.refused_end self.now }
     {
@@ -53,8 +54,8 @@ impl RegistryRefusal {
         }
     }
 
-    /// The number of the record at fault, counted from 1. None for a fault of the format, which has a line instead,
-    /// and where memory ran out. It has no contract: it serves [`Fault::record`].
+    /// The number of the record at fault, counted from 1. None for a fault of the format, which has the number of a
+    /// line instead, and if memory ran out. It has no contract: it serves [`Fault::record`].
     pub(crate) fn record(&self) -> Option<u32> {
         match self {
             RegistryRefusal::Record(fault) => Some(fault.number),
@@ -67,8 +68,7 @@ impl RegistryRefusal {
 impl From<RegistryFault> for RegistryRefusal {
     ghost from_gives = { λ fault refusal. IsRegistryRefusal (Err fault) refusal };
 
-    /// The refusal of a file that was read with this fault. Memory that ran out is a refusal of its own, whichever
-    /// fault says so.
+    /// The refusal of a file whose reading is this fault. It is `OutOfMemory` if the kind of the fault is.
     fn from(fault: RegistryFault) -> RegistryRefusal {
         match fault {
             RegistryFault::Jar(fault) if fault.kind == JarFaultKind::OutOfMemory => {
@@ -83,8 +83,8 @@ impl From<RegistryFault> for RegistryRefusal {
     }
 }
 
-/// The entries, as a table that passed the check, or why they are refused: the first finding of the check, or that
-/// memory ran out. In the clause `Ok registry` is the reading of the file that had these entries.
+/// The entries of `registry`, as a table that passed the check; or why they are refused, which is the first finding of
+/// the check or lack of memory. In the clause, `Ok registry` is the reading of the file that has these entries.
 pub(crate) fn check_entries(
     alloc: Global,
     registry: Registry,
@@ -116,7 +116,7 @@ fn judge_file<F: Read>(
     }
 }
 
-/// The registry of a file, or the fault with which it is refused. `role` says which of its registries the command means.
+/// The registry of a file, or the fault with which it is refused. `role` says which of the command's registries it is.
 pub(crate) fn read_registry<F: Read>(
     alloc: Global,
     role: Role,

@@ -1,6 +1,6 @@
 //! Lines that are tags, and rows with a column of tags. The ground is what they are answered by: a registry, and a
-//! table of codes if one is named. The front is what was read of the input to find a column by its name, which is
-//! answered too.
+//! table of codes if one is named. The front is the bytes of the input that were read already to find a column by its
+//! name; their rows are answered too.
 ghost use Rattle.std.specs.Prelude.{◌≡◌};
 ghost use Rattle.lt_tool.specs.Rows as spec;
 ghost use Rattle.lt_tool.specs.Rows.{FindsPlace, PlansRows, PlansTags, ReadsCodes, ReadsGround};
@@ -20,7 +20,8 @@ use lt_words::{Column, Rows};
 use std::alloc::Global;
 use std::io::Read;
 
-/// The table of codes of a file, or None if no table is named. Refused if a table is named and the file holds none.
+/// The table of codes of a file. None if `is_named` says that the command names no table; then the file is not read.
+/// Refused if the file can't be read as a table.
 fn read_codes<F: Read>(
     alloc: Global,
     is_named: bool,
@@ -38,7 +39,7 @@ fn read_codes<F: Read>(
 }
 
 /// What lines are answered by: the registry of the first file, and the table of codes of the second if `is_named`. Refused if
-/// one of them is; if the registry is, the second file is not read.
+/// the registry or the table is; if the registry is, the second file is not read.
 fn read_ground<F: Read>(
     alloc: Global,
     is_named: bool,
@@ -68,8 +69,8 @@ pub(crate) fn plan_tags<'a, F: Read>(
     }))
 }
 
-/// The form of rows whose column of tags has this number, counted from 1. The words say whether there is a heading and
-/// whether rows are kept. The form holds the number of fields before the column.
+/// The form of rows whose column of tags has this number, counted from 1. The form has the number of fields before that
+/// column. `rows` says whether the first row is a heading, and whether rows are kept as they are and get fields added.
 fn row_form(rows: &Rows, number: usize) -> RowForm
     ensures { result ≡ spec.row_form rows.now number }
 {
@@ -80,8 +81,8 @@ fn row_form(rows: &Rows, number: usize) -> RowForm
     }
 }
 
-/// The form of each line: a row if a tab parts the fields, and a record of CSV if a delimiter does. `number` is that of the
-/// column, counted from 1.
+/// The form of each line: a row of TSV if tabs part the fields, and a record of CSV if a delimiter does. `number` is
+/// that of the column of tags, counted from 1; `rows` has the options of the command line.
 fn line_form(separator: Separator, rows: &Rows, number: usize) -> LineForm
     ensures { result ≡ spec.line_form separator rows.now number }
 {
@@ -97,15 +98,15 @@ fn line_form(separator: Separator, rows: &Rows, number: usize) -> LineForm
 pub(crate) struct ColumnPlace {
     /// Its number, counted from 1.
     number: usize,
-    /// What was read of the input to find it, if it was looked for.
+    /// What was read of the input to find it by its name; None if its number was given.
     front: Option<Vec<u8>>,
 }
 
 impl From<ColumnFault> for Fault {
     ghost from_gives = { λ missing fault. fault ≡ spec.of_column_fault missing };
 
-    /// The fault of a column that is not found: wrong usage where the heading does not have it once, with the line
-    /// that tells it, or the fault of reading the heading.
+    /// The fault of a column that is not found. It is wrong usage, with the line that says so, if the heading does not
+    /// have the name exactly once; or else the fault with which reading the heading failed.
     fn from(fault: ColumnFault) -> Fault {
         match fault {
             ColumnFault::Name(line) => Fault::Usage(line),
@@ -114,8 +115,8 @@ impl From<ColumnFault> for Fault {
     }
 }
 
-/// Where the column is that the words name, by its number or by its name in the heading of the input; or why the column is
-/// not found.
+/// Where the column of tags is, which the words give by its number, or by its name in the heading of the input. The
+/// input is read only for a name. Refused if the heading does not have the name exactly once, or can't be read.
 fn place_of<I: Read>(
     alloc: Global,
     separator: Separator,
@@ -142,7 +143,8 @@ fn place_of<I: Read>(
     }
 }
 
-/// The plan to answer the rows of the input; or why a file is refused, or the column is not found.
+/// The plan to answer the rows of the input, with `separator` between their fields. Refused if a file is, or if the
+/// column of tags is not found; that is looked for once the files have passed.
 pub(crate) fn plan_rows<'a, F: Read, I: Read>(
     alloc: Global,
     separator: Separator,

@@ -37,7 +37,7 @@ fn drop_unknown(alloc: Global, end: Result<Counts, ToolFault>, tallies: &mut Tal
     }
 }
 
-/// What a run over lines came to: how many it answered and refused, or why it failed.
+/// What a run over lines came to: how many lines it answered and refused, or why it failed.
 fn counted(end: Result<Counts, ToolFault>) -> Result<Answer, Fault>
     ensures { result ≡ spec.counted end }
 {
@@ -47,8 +47,9 @@ fn counted(end: Result<Counts, ToolFault>) -> Result<Answer, Fault>
     }
 }
 
-/// Answers lines of this form. `tallies` is set to those that were refused, where it is known which were answered. Refused if
-/// a read or a write fails, the input is at fault, or memory runs out.
+/// Answers the lines of the input, which have this form, by a registry and a table of codes (`ground`). `tallies` is
+/// set to how many lines were refused for each fault; it is empty if it is not known which answers were written.
+/// Refused if a read or a write fails, the input is at fault, or memory runs out.
 fn run_over<I: Read, O: Write>(
     alloc: Global,
     ground: &Ground,
@@ -68,8 +69,8 @@ fn run_over<I: Read, O: Write>(
     counted(end)
 }
 
-/// Answers the lines of the input. They begin with the bytes that were read to find a column, if any were. Refused as by
-/// `run_over`.
+/// Answers the lines of the input. They begin with the bytes that were read already to find a column, if any were.
+/// `tallies` and the refusals are as in `run_over`.
 fn answer_lines<I: Read, O: Write>(
     alloc: Global,
     plan: &LinesPlan,
@@ -88,7 +89,8 @@ fn answer_lines<I: Read, O: Write>(
     }
 }
 
-/// What a run over lines came to, by how many of them it wrote: it is refused if it wrote none. It failed if `end` says so.
+/// What a run that writes matching lines came to. `end` is how many lines it wrote, or why it failed. The run ends as
+/// refused if it wrote none.
 fn selected(end: Result<u64, ToolFault>) -> Result<Answer, Fault>
     ensures { result ≡ spec.selected end }
 {
@@ -107,7 +109,7 @@ pub(crate) fn ended(mut line: Vec<u8>) -> Result<Vec<u8>, OutOfMemory>
     Ok(line)
 }
 
-/// The answer that prints a line that was found. Refused where memory runs out.
+/// The answer that prints a line that was found, with a line feed. Refused if memory runs out.
 fn found(line: Vec<u8>) -> Result<Answer, Fault>
     ensures { PrintsLine line.items result }
 {
@@ -115,8 +117,8 @@ fn found(line: Vec<u8>) -> Result<Answer, Fault>
     Ok(Answer::Text(text))
 }
 
-/// What a search for a line came to: the line is to be printed, or the run ends as refused if none was found. It failed if
-/// `end` says so.
+/// What a search for a line came to. `end` is the line that was found, None if there is none, or why the search failed.
+/// The line is to be printed; if there is none, the run ends as refused. `Err` also if memory runs out.
 fn searched(end: Result<Option<Vec<u8>>, ToolFault>) -> Result<Answer, Fault>
     ensures { IsFound end result }
 {
@@ -127,14 +129,16 @@ fn searched(end: Result<Option<Vec<u8>>, ToolFault>) -> Result<Answer, Fault>
     }
 }
 
-/// The line of the input that lookup by ranges finds, as an answer; or why the search failed.
+/// Searches the input for the line that lookup (RFC 4647, 3.4) by the ranges finds. The answer prints the line, or is a
+/// refused run if there is none. `Err` if the search fails or memory runs out.
 fn look_up<I: Read>(alloc: Global, plan: &MatchPlan, input: &mut Device<I>) -> Result<Answer, Fault>
     ensures { Searches (LooksUp plan.now.checked plan.now.ranges.items) (stream I.remaining input.old input.new) result }
 {
     searched(look_up_line(alloc, &plan.checked, &plan.ranges, input))
 }
 
-/// The line of the input that preferences serve, as an answer; or why the search failed.
+/// Searches the input for the line that is served for preferences. The answer prints the line, or is a refused run if
+/// there is none. `Err` if the search fails or memory runs out.
 fn serve<L: Lookup, I: Read>(
     alloc: Global,
     checked: &Checked<L>,
@@ -176,7 +180,7 @@ fn valid_tag<L: Lookup>(
     ensures refusal { IfErr result (IsValidityRefusal (L.listed checked.now) text.now) }
 {
     let tag = read_tag(alloc, text)?;
-    // The call is for its clause `tag` alone, which the proof of `valid` needs.
+    // The call serves only the proof of `valid`, which needs the clause `tag` of `extensions`.
     let _ = tag.extensions();
     match validate(alloc, checked.table(), &tag) {
         Ok(()) => Ok(tag),
@@ -184,8 +188,8 @@ fn valid_tag<L: Lookup>(
     }
 }
 
-/// What a run came to that judged an explanation: it is right, or it is refused by the verdict. The run failed if `end` says
-/// so.
+/// What a run that judged an explanation came to: it passed if the verdict is `Right`, and any other verdict is its
+/// fault. If `end` says that the judging failed, so did the run.
 fn judged(end: Result<Verdict, ToolFault>) -> Result<Answer, Fault>
     ensures { result ≡ spec.judged end }
 {
@@ -196,8 +200,9 @@ fn judged(end: Result<Verdict, ToolFault>) -> Result<Answer, Fault>
     }
 }
 
-/// Judges the lines of the input as an explanation of a text, by a registry; a wrong explanation is refused by its verdict.
-/// If the text is no valid tag, its refusal is given, and no line is read.
+/// Judges the lines of the input as an explanation of a text, by a registry. A wrong explanation is refused with the
+/// verdict. If the text is no valid tag, its refusal is given, and no line is read. `Err` also if a read fails or
+/// memory runs out.
 fn verify<L: Lookup, I: Read>(
     alloc: Global,
     checked: &Checked<L>,
@@ -236,8 +241,8 @@ fn answer_in_json<L: Lookup, I: Read, O: Write>(
     answered(ended.0, ended.1)
 }
 
-/// Does what is left to do of a run, and gives its answer, which is not printed yet, or what was refused or failed. `tallies`
-/// is set to what was refused of lines that were answered.
+/// Carries out a plan, and gives the answer of the run, which is still to be printed, or what was refused or failed. If
+/// the plan is to answer tags or rows, `tallies` is set to how many lines were refused for each fault.
 pub(crate) fn run<I: Read, O: Write>(
     alloc: Global,
     plan: Plan<'_>,

@@ -1,4 +1,5 @@
-//! What the records of a registry say of tags, printed tag by tag. What is printed of one text is a block.
+//! The command `show`: what the records of a registry say of tags, printed tag by tag. What is printed for one text is
+//! called its block.
 ghost use Rattle.std.specs.Prelude.{◌≡◌, ◌||◌, ◌++◌, ◌∷◌, [], IfOk, Ok, false, map, string_bytes, true};
 ghost use Rattle.lt_show.specs.Tables.{shown_byte};
 ghost use Rattle.lt_tool.specs.Shown as spec;
@@ -22,7 +23,7 @@ use lt_words::Tags;
 use std::alloc::Global;
 use std::io::{Read, Write};
 
-/// Whether the text of a block is refused, if the block was written; or why not all of the block was.
+/// Whether the text of a block is refused (`refused`), if all of the block was written; else the fault of the write.
 fn told(refused: bool, end: Result<(), ToolFault>) -> Result<bool, ToolFault>
     ensures { result ≡ spec.told refused end }
 {
@@ -32,7 +33,7 @@ fn told(refused: bool, end: Result<(), ToolFault>) -> Result<bool, ToolFault>
     }
 }
 
-/// Writes a block that was made in memory, and tells whether its text is `refused`. Refused itself if the write fails.
+/// Writes a block that was made in memory, and tells whether its text is `refused`. `Err` means that the write failed.
 fn write_block<O: Write>(
     block: &[u8],
     refused: bool,
@@ -60,7 +61,7 @@ fn show_object<L: Lookup, O: Write>(
 }
 
 /// A block for people: the bytes `head`, the line of a refusal, and an empty line. The `true` of the clause says that
-/// the text is refused.
+/// the text is refused. `Err` if memory runs out.
 fn refused_block(head: Vec<u8>, refusal: &TextRefusal) -> Result<Vec<u8>, OutOfMemory>
     ensures { IfOk result (λ block. EndsRefused refusal.now head.items block.items true) }
 {
@@ -94,9 +95,9 @@ fn printable_line(alloc: Global, text: &[u8]) -> Result<Vec<u8>, OutOfMemory>
     Ok(line)
 }
 
-/// Writes the table of a text that is a tag, its explanation, or the line of its refusal, and an empty line. The lines of the
-/// explanation are written as they are made. Tells whether the text is refused. `Err` means that a write failed or memory ran
-/// out.
+/// Writes the block of a text that is a tag: first its `table`, then its explanation or the line of its refusal, and
+/// then an empty line. The lines of the explanation are written as they are made. Tells whether the text is refused.
+/// `Err` means that a write failed or memory ran out.
 fn show_ended<L: Lookup, O: Write>(
     alloc: Global,
     checked: &Checked<L>,
@@ -112,9 +113,9 @@ fn show_ended<L: Lookup, O: Write>(
     }
 }
 
-/// Writes what `show` prints of a text for people: the table of its subtags, its explanation or the line of its refusal, and
-/// an empty line. If the text is no tag, the text stands in place of the table. Tells whether the text is refused. `Err`
-/// means that a write failed or memory ran out.
+/// Writes what `show` prints of a text for people: the table of its subtags, then its explanation or the line of its
+/// refusal, and then an empty line. If the text is no tag, the text itself stands in place of the table. Tells whether
+/// the text is refused. `Err` means that a write failed or memory ran out.
 fn show_block<L: Lookup, O: Write>(
     alloc: Global,
     checked: &Checked<L>,
@@ -185,7 +186,7 @@ fn show_each<L: Lookup, O: Write>(
     Ok(any)
 }
 
-/// What a run came to that showed texts: `any` says whether one of them is refused, or why not all were written.
+/// What a run that showed texts came to. `any` says whether one of the texts is refused, or why not all were written.
 fn shown(any: Result<bool, ToolFault>) -> Result<Answer, Fault>
     ensures { result ≡ spec.shown any }
 {
@@ -195,8 +196,8 @@ fn shown(any: Result<bool, ToolFault>) -> Result<Answer, Fault>
     }
 }
 
-/// Writes what `show` prints of the tags on its command line, by a registry and its records. `Err` means that a write failed
-/// or memory ran out.
+/// Writes what `show` prints of the tags on its command line, by a registry and its records. The run ends as refused if
+/// one of them is. `Err` means that a write failed or memory ran out.
 pub(crate) fn show_texts<L: Lookup, O: Write>(
     alloc: Global,
     checked: &Checked<L>,
@@ -210,7 +211,8 @@ pub(crate) fn show_texts<L: Lookup, O: Write>(
     shown(any)
 }
 
-/// The refusal of a registry that was read with its records: that of the registry alone, or that memory ran out.
+/// The refusal of a file that was to be read as a registry with its records: the one that reading only the registry
+/// gives, or that memory ran out.
 fn refusal_of(fault: RecordsFault) -> RegistryRefusal
     ensures { IsKeptRefusal fault result }
 {
@@ -220,8 +222,8 @@ fn refusal_of(fault: RecordsFault) -> RegistryRefusal
     }
 }
 
-/// The plan to show tags by a registry and its records (`both`), which were read of a file, or why the registry fails
-/// the check.
+/// The plan to show tags by a registry and its records (`both`), which were read from a file; or why the registry is
+/// refused: it fails the check, or memory ran out.
 fn plan_kept<'a>(alloc: Global, both: (Registry, Jar), tags: &'a Tags) -> Result<Plan<'a>, Fault>
     ensures { PlansBy tags.now (Ok both) result }
 {

@@ -38,7 +38,8 @@ fn append_steps(objects: &mut Vec<u8>, steps: &[Step]) -> Result<(), AllocError>
     Ok(())
 }
 
-/// Appends the members of a tag that has a canonical form, and the end of its object.
+/// Appends the last members of the object of a tag that has a canonical form, by its explanation `trace`, and ends the
+/// line.
 fn append_explained(
     objects: &mut Vec<u8>,
     alloc: Global,
@@ -55,8 +56,8 @@ fn append_explained(
     Ok(())
 }
 
-/// What the line of a refusal tells: its name, a space, and the place of the fault or the variant, without `! ` and the line
-/// feed.
+/// The line of a refusal without `! ` and the line feed: its name, a space, and the place of the fault or the variant,
+/// for example `BadByte 1`.
 fn told_of(alloc: Global, refusal: &TextRefusal) -> Result<Vec<u8>, OutOfMemory> {
     let mut line = Vec::new(alloc);
     append_refusal(&mut line, refusal)?;
@@ -65,7 +66,8 @@ fn told_of(alloc: Global, refusal: &TextRefusal) -> Result<Vec<u8>, OutOfMemory>
     Ok(told)
 }
 
-/// Appends the members of a tag that is refused, and the end of its object. `told` is what its refusal tells.
+/// Appends the last members of the object of a refused text, and ends the line. `told` is what `told_of` gives for the
+/// refusal.
 fn append_refused(objects: &mut Vec<u8>, told: &[u8]) -> Result<(), OutOfMemory> {
     append_name(objects, b"canonical")?;
     append_null(objects)?;
@@ -77,7 +79,8 @@ fn append_refused(objects: &mut Vec<u8>, told: &[u8]) -> Result<(), OutOfMemory>
     Ok(())
 }
 
-/// Appends the last members of a tag's object, its canonical form and steps or its fault, and tells whether it is refused.
+/// Appends the last members of a tag's object, which are its canonical form, its steps and its fault, and ends the
+/// line. Tells whether the tag is refused.
 fn append_answer<L: Lookup>(
     objects: &mut Vec<u8>,
     alloc: Global,
@@ -107,7 +110,7 @@ fn append_input(objects: &mut Vec<u8>, text: &[u8]) -> Result<(), OutOfMemory> {
     Ok(())
 }
 
-/// Appends the object of a text that is no tag, with what its refusal tells.
+/// Appends the object of a text that is no tag; `refusal` says why it is none.
 fn append_no_tag(
     objects: &mut Vec<u8>,
     alloc: Global,
@@ -143,7 +146,8 @@ fn append_tag_rows<L: Lookup>(
     Ok(())
 }
 
-/// Appends what `show` prints of a text as a line of JSON, and tells whether the text is refused.
+/// Appends what `show` prints of a text as a line of JSON, and tells whether the text is refused. `Err` means that
+/// memory ran out; a part of the line may have been appended then.
 pub(crate) fn append_object<L: Lookup>(
     objects: &mut Vec<u8>,
     alloc: Global,

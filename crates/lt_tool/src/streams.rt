@@ -12,11 +12,11 @@ pub struct Streams<I, O, E> {
     pub input: Device<I>,
     /// The standard output, where answers are printed.
     pub output: Device<O>,
-    /// The standard error, where it is told what failed.
+    /// The standard error, which is told what failed.
     pub errors: Device<E>,
 }
 
-/// A file that a command names; or none, of which no byte is read.
+/// A file that a command names, or no file, which reads like an empty one.
 #[derive(Drop)]
 pub enum Source<F> {
     /// The file.
@@ -30,7 +30,7 @@ impl<F: Read> Read for Source<F> {
 
     ghost remaining = { λ source. bytes_of F.remaining source };
 
-    /// Reads once from the file, or gives no bytes if there is none. As of each reader, no more bytes are given than
+    /// Reads once from the file, or gives no bytes if there is none. As with every reader, no more bytes are given than
     /// `buf` has room for (`bound`), and they are the next of those that are left (`bytes`).
     fn read(&mut self, buf: &mut [u8]) -> io::Result<usize>
         ensures bound { ReadsAtMost result buf.new }

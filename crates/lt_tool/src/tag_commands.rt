@@ -105,9 +105,9 @@ fn equality<L: Lookup>(
     Ok(equivalent(alloc, checked, &tag, &other)?)
 }
 
-/// Whether the first of two texts passes, so that `refusal` is that of the second. `own` is what is answered to the
-/// first alone. It passes if it is a tag that has a canonical form. If `refusal` says that a text is no tag, it
-/// passes without a canonical form too, since both texts are read before a tag is judged.
+/// Whether the first of two texts passes, so that `refusal` is that of the second. `own` is the canonical text of the
+/// first, or why it has none. A tag with a canonical form passes. If `refusal` says that a text is no tag, a tag
+/// without a canonical form passes too, since both texts are read before a tag is judged.
 fn is_passed(refusal: &TextRefusal, own: &Result<Vec<u8>, TextRefusal>) -> bool
     ensures { result ≡ spec_of_tags.is_passed refusal.now own.now }
 {
@@ -120,7 +120,7 @@ fn is_passed(refusal: &TextRefusal, own: &Result<Vec<u8>, TextRefusal>) -> bool
 }
 
 /// The fault of two texts, one of which is refused: it says whether that is the first or the second. `refusal`
-/// doesn't say that, so the first text is made canonical alone.
+/// doesn't say that, so the canonical text of the first one is looked for again.
 fn pair_fault<L: Lookup>(
     alloc: Global,
     checked: &Checked<L>,
@@ -191,8 +191,8 @@ pub(crate) fn plan_verify<'a, F: Read>(
     Ok(Plan::Verify(checked, text))
 }
 
-/// What `upgrade` answers to two files. The older one is read and judged first; where it is refused, the newer one is not
-/// read.
+/// What `upgrade` answers to two files: that the newer registry upgrades the older one, or why a registry or the
+/// upgrade is refused. The older file is read and judged first; if it is refused, the newer one is not read.
 pub(crate) fn upgrade<'a, F: Read>(alloc: Global, files: &mut Files<F>) -> Result<Plan<'a>, Fault>
     ensures { UpgradesFiles F.remaining files.old files.new result }
 {

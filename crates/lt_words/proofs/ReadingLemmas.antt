@@ -1,4 +1,6 @@
--- What a parse's answer says of the words.
+-- For `read_words`: what the answer of `clap`'s parser says of the words of a command line, which command they name or
+-- with which fault they are refused. `clap` calls a command line simple if its contracts state which matches any words
+-- have by it, and free if no argument of it has a rule on another one; then they state the faults of the words too.
 use Rattle.std.proofs.Common.{◌≡◌, ◌⊎◌, inl, inr, ℕ, List, [], ◌∷◌, Option, true, refl, sym, subst}
 use Rattle.clap.specs.Words.{App, HasMatchesOf, IsAmong, Row, Text, fault_of, is_simple, is_simple_and_free, subcommand_of}
 use Rattle.clap.specs.Words.{subcommand_rows_of}
@@ -11,27 +13,28 @@ use Rattle.lt_words.specs.declared.commands.Command.{Command}
 use Rattle.lt_words.specs.declared.faults.WordsFault.{WordsFault}
 use Rattle.lt_words.specs.declared.faults.WordsFault.TheVariants as fault
 
--- the program's command line is simple, so `clap` states which matches words have by it
+-- the program's command line is simple
 pub langtag-simple : is_simple langtag ≡ true
 langtag-simple = refl
 
--- it is free too, no argument having a rule on another, so `clap` states which faults words have by it
+-- the program's command line is simple and free
 pub langtag-free : is_simple_and_free langtag ≡ true
 langtag-free = refl
 
--- what a parse `m` gives of the subcommand and its arguments is what `clap` states, where the command line `a` is the
--- program's
+-- the subcommand and the rows of its arguments that a parse `m` found are those that `clap` states for the words, if
+-- the command line `a` is the program's
 pub rows_found : (a : App) (words : List Text) (m : ArgMatches) → a ≡ langtag → HasMatchesOf a words m
     → subcommand_rows_of m ≡ subcommand_of langtag words
 rows_found a words m same has = (subst (λ (x : App). HasMatchesOf x words m) same has langtag-simple).1
 
--- what `clap` says, as `P`, of the faults of the words by the command line `a`, which is the program's
+-- if `clap` says that `P` is true of the faults of the words by the command line `a`, provided that `a` is simple and
+-- free, and `a` is the program's command line, then `P` is true of their faults by that
 pub said_of : (P : List ErrorKind → Type 0) (a : App) (words : List Text) → a ≡ langtag
     → (is_simple_and_free a ≡ true → P (fault_of a words)) → P (fault_of langtag words)
 said_of P a words same said =
     subst (λ (x : App). is_simple_and_free x ≡ true → P (fault_of x words)) same said langtag-free
 
--- words without a fault whose parse found this command are read as it
+-- words without a fault, whose parse found what names this command, are read as the command
 pub reads_named : (words : List Text) (found : Option (Text × List Row)) (command : Command) → found ≡ subcommand_of langtag words
     → fault_of langtag words ≡ [] → IsNamed found command → Reads words command
 reads_named words found command same right named = record {

@@ -1,4 +1,6 @@
--- What is shown of positionals without a value, of texts that name no column, and of the names of subcommands.
+-- Lemmas for `values.rt` and `reading.rt`. A command is not named if a positional, which is an argument that is given
+-- by its place, has no value. A text names a column only by a number or a name that fits. And no two subcommands have
+-- the same name.
 use Rattle.std.proofs.Common.{◌≡◌, ◌<◌, ◌∙◌, ℕ, Bool, true, false, List, [], ◌∷◌, Option, Some, None, map, sym, ap}
 use Rattle.std.proofs.Common.{refl, subst, slice_index, ◌==◌, if◌then◌else◌, le-leb}
 use Rattle.std.specs.Char.{digit_value, is_ascii_digit}
@@ -16,7 +18,7 @@ use Rattle.lt_words.specs.Reading.{subcommand_for}
 use Rattle.lt_words.specs.declared.subcommands.Subcommand.{Subcommand}
 use Rattle.lt_words.specs.declared.subcommands.Subcommand.TheVariants as sub
 
--- where a positional has no value among the matches `rows`, no texts are the values given for it
+-- if a positional has no value among the matches `rows`, no list of texts is the values given for it
 pub no_texts : (rows : List Row) (positional : Text) → first_of positional rows ≡ None → (texts : List Text)
     → AreGiven rows (positional ∷ []) texts → ⊥
 no_texts rows positional none [] given = let e = given.each in cc
@@ -69,8 +71,8 @@ pub digits_next : (all rest more : List ℕ) (d : ℕ) → rest ≡ d ∷ more �
 digits_next all rest more d is digit same =
     (λ a. (subst (AllDigits 10) is (same.0 a)).1, λ m. same.1 (subst (AllDigits 10) (sym is) (digit, m)))
 
--- where `rest`, what is left of `all` after some digits, begins with a byte `d` that is no digit, `all` has not
--- digits alone
+-- if `rest`, which is what follows some digits in `all`, begins with a byte `d` that is no digit, `all` has a byte that
+-- is no digit
 pub no_digit : (all rest more : List ℕ) (d : ℕ) → rest ≡ d ∷ more → is_ascii_digit d ≡ false
     → (AllDigits 10 all → AllDigits 10 rest) → AllDigits 10 all → ⊥
 no_digit all rest more d is other same a =
@@ -89,7 +91,7 @@ no_number text heading (fault.Usage said) decimal none = by_column
     by_column (columns.Name name) is fits = is.1 decimal
 no_number text heading fault.OutOfMemory decimal none = tt
 
--- a text that is no decimal number names no column without a heading
+-- without a heading, a text that is no decimal number names no column
 pub no_name : (text : Text) (heading : Bool) → (IsDecimal text → ⊥) → heading ≡ false
     → (column : Column) → IsColumn text column → FitsHeading heading column → ⊥
 no_name text heading other without (columns.Number number) is fits = other is.digits
@@ -130,7 +132,7 @@ named_back sub.Upgrade = refl
 named_back sub.Show = refl
 named_back sub.Json = refl
 
--- two subcommands of one name are the same
+-- two subcommands with the same name are the same
 pub one_named : (s other : Subcommand) → name_of s ≡ name_of other → s ≡ other
 one_named s other e = sym (named_back s) ∙ ap (λ (name : Text). by_letters (slice_index name 2) (slice_index name 0)) e ∙ named_back other
 

@@ -110,7 +110,7 @@ subcommands =
     sub.Classify ∷ sub.Check ∷ sub.Canon ∷ sub.Codes ∷ sub.Tsv ∷ sub.Csv ∷ sub.Match ∷ sub.Extlang
     ∷ sub.Equal ∷ sub.Explain ∷ sub.Verify ∷ sub.Upgrade ∷ sub.Show ∷ sub.Json ∷ []
 
--- the program with these subcommands, in this order; `.top` is a subcommand alone
+-- the program with these subcommands, in this order; `.top` is a subcommand without subcommands of its own
 abbrev pub with_subcommands : App → List Subcommand → App
 with_subcommands app [] = app
 with_subcommands app (s ∷ more) =

@@ -29,7 +29,7 @@ word_line number shown =
     codes "error: argument " ++ decimal number ++ codes " is not UTF-8: " ++ shown
     ++ codes "\n\nFor more information, try '--help'.\n"
 
--- a word is not UTF-8, and the fault is the line that says so; OutOfMemory may be answered of any word
+-- a word is not UTF-8, and the fault is the line that says so; OutOfMemory may be answered for any word
 abbrev pub IsNoText : (number : ℕ) → (bytes : List ℕ) → WordsFault → Type 0
 IsNoText number bytes (fault.Help text) = ⊥
 IsNoText number bytes (fault.Version text) = ⊥

@@ -96,7 +96,7 @@ is_of_added byte = is_ascii_alphanumeric byte || (byte == 32) || (byte == 45) ||
 abbrev pub is_delimiter : ℕ → Bool
 is_delimiter byte = nat_lt byte 128 && not (byte == 34) && not (byte == 10) && not (byte == 13) && not (is_of_added byte)
 
--- the byte that a text is alone, if it may stand between fields
+-- the byte of a text of one byte, if it may stand between fields; None for any other text
 abbrev pub delimiter_alone : Text → Option ℕ
 delimiter_alone (byte ∷ []) = if is_delimiter byte then Some byte else None
 delimiter_alone _ = None
@@ -128,7 +128,7 @@ matching_given rows = matching_by (is_flagged (codes "extended") rows) (is_flagg
 abbrev pub values_given : (name : Text) → List Row → List Text
 values_given name rows = option_map_or (λ texts. texts) (all_of name rows) []
 
--- the command line gives these ranges, one at least, and says that they match so
+-- the command line gives these ranges, one at least, and asks for their way to match
 abbrev pub AreRangesGiven : List Row → Ranges → Type 0
 AreRangesGiven rows ranges =
     (map string_bytes ranges.texts.items ≡ values_given (codes "RANGE") rows)
@@ -140,7 +140,7 @@ IsAlone rows =
     (values_given (codes "RANGE") rows ≡ []) × (is_flagged (codes "extended") rows ≡ false)
     × (is_flagged (codes "lookup") rows ≡ false)
 
--- the options of a run over lines are as the command line gives them; `rows` are its matches, one for an argument
+-- the options of a run over lines are as the command line gives them; `rows` are its matches, one for each argument
 abbrev pub AreRunOptions : Run → List Row → Type 0
 AreRunOptions run rows = run.summary ≡ is_flagged (codes "summary") rows
 
@@ -150,7 +150,7 @@ AreRowOptions rows found =
     (rows.keep ≡ is_flagged (codes "keep") found)
     × (option_map string_bytes rows.codes ≡ first_of (codes "TABLE") found)
 
--- the options of a command are as the command line gives them, whose matches are `found`; CSV always has a heading
+-- the options of a command are as the command line gives them; `found` are its matches. CSV always has a heading.
 abbrev pub AreOptions : Command → List Row → Type 0
 AreOptions (command.Canon run) found = AreRunOptions run found
 AreOptions (command.Codes run table) found = AreRunOptions run found
@@ -236,8 +236,9 @@ pub record Reads (words : List Text) (command : Command) : Type 0 where
   pub right : fault_of langtag words ≡ []
   pub names : Names words command
 
--- Why the words name no command. Help and the version are answered only where they are asked for, and usage only to
--- words that name no command and ask for neither of the two alone. OutOfMemory may be answered to any words.
+-- Why the words name no command. Help and the version are answered only if they are asked for. Usage is answered only
+-- to words that name no command and don't ask only for help or only for the version. OutOfMemory may be answered to any
+-- words.
 abbrev pub IsRefused : List Text → WordsFault → Type 0
 IsRefused words (fault.Help text) = IsAmong kind.DisplayHelp (fault_of langtag words)
 IsRefused words (fault.Version text) = IsAmong kind.DisplayVersion (fault_of langtag words)

@@ -8,7 +8,7 @@ ghost use Rattle.lt_words.specs.Reading.{first_file_of, has_summary, reads_input
 pub struct Run {
     /// The file of the registry.
     pub registry: String,
-    /// Whether a summary of the lines that were refused is told after it, also where no terminal is there.
+    /// Whether a summary of the refused lines is told after the run, even without a terminal.
     pub summary: bool,
 }
 
@@ -72,13 +72,13 @@ pub enum Command {
     Check(String),
     /// The canonical form of each line of the input.
     Canon(Run),
-    /// The same, with what is registered for the first subtag of a line in the place of that, where it is a code of the table
-    /// of this file.
+    /// The same, after the first subtag of a line is replaced by the registered one, if it is a code of the table in
+    /// this file: `de` for `ger`.
     Codes(Run, String),
-    /// The rows of the input with the canonical form of a field.
+    /// The rows of the input, with tabs between their fields, and with the canonical form of one field.
     Tsv(Run, Rows),
-    /// The records of CSV of the input, after a heading, with the canonical form of a field; the byte stands between their
-    /// fields.
+    /// The CSV records of the input, after a heading, with the canonical form of one field. The byte is the delimiter
+    /// between fields.
     Csv(Run, Rows, u8),
     /// The lines of the input that one of these ranges matches, or the line that lookup by them finds, by the registry of
     /// this file, which comes first.

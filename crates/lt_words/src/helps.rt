@@ -1,6 +1,6 @@
 //! What the help of each command says besides its words: what it does, an example, its statuses, and where the manual is.
 
-/// What is said at the top of a command's help, and below its words.
+/// What a command's help says at the top (`about`), and below the list of its arguments (`after`).
 pub(crate) struct Help {
     pub(crate) about: &'static str,
     pub(crate) after: &'static str,

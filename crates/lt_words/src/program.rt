@@ -145,8 +145,8 @@ pub(crate) static SUMMARY: Argument = Argument {
 const VERSION: &str = "1.1.0 (rattle-kit-13 logic dac8208d650f15bf)";
 
 /// The argument that is wanted, as the parser takes it: a positional, which is required, may be repeated, or both, an
-/// option with a value, or a flag. It is not global (`local`), that is, one of the subcommands below too: `clap`
-/// states what a command is only if it has no such argument.
+/// option with a value, or a flag. By `local` it is not global: a global argument is one of each subcommand below too,
+/// and `clap` states what a command is only if it has none.
 fn new_argument<'a>(alloc: Global, wanted: &Argument) -> Arg<'a>
     ensures rule { rule_of result ≡ rule_for wanted.now.form wanted.now.name.now }
     ensures local { result.global ≡ false }
@@ -192,8 +192,8 @@ fn new_program<'a>(alloc: Global) -> Command<'a>
         .subcommand_required(true)
 }
 
-/// The program with a further subcommand, which has this name, help and arguments. In the clause `.top` is the
-/// subcommand alone, without subcommands of its own.
+/// The program with one more subcommand, which has this name, help and arguments. In the clause `.top` is the
+/// subcommand without subcommands of its own.
 fn with_new<'a>(
     alloc: Global,
     program: Command<'a>,

@@ -16,7 +16,7 @@ use clap::ArgMatches;
 use std::alloc::{AllocError, Global};
 
 /// The value of a positional, which is an argument that is given by its place. Refused with `Usage` if it has none.
-/// The clauses speak of lists of one, since their definitions are of all positionals of a command.
+/// The clauses have lists of one positional and one value, since their definitions are made for several.
 pub(crate) fn value_of(
     alloc: Global,
     matches: &ArgMatches<'_>,
@@ -107,7 +107,7 @@ fn without_plus(text: &[u8]) -> &[u8]
     }
 }
 
-/// Whether a text has decimal digits alone (10 in the clause is the base). It is true of an empty text too.
+/// Whether a text has only decimal digits (10 in the clause is the base). It is true of an empty text too.
 #[tactic(auto, using(crate::proofs::ValueLemmas::digits_next, crate::proofs::ValueLemmas::no_digit))]
 fn are_digits(bytes: &[u8]) -> bool
     ensures { IsTrue result ↔ AllDigits 10 bytes.now }
@@ -193,7 +193,8 @@ fn delimiter_named(text: &str) -> Option<u8>
     }
 }
 
-/// The delimiter between fields that the option names, or a comma without it. Refused with `Usage` if it names none.
+/// The delimiter between fields that the option names, or a comma without the option. Refused with `Usage` if the
+/// option names no delimiter.
 pub(crate) fn delimiter_of(alloc: Global, matches: &ArgMatches<'_>) -> Result<u8, WordsFault>
     ensures given { IfOk result (λ byte. delimiter_given (rows_of (found_of matches.now)) ≡ Some byte) }
     ensures none { IfErr result (LacksDelimiter (rows_of (found_of matches.now))) }
