@@ -217,13 +217,13 @@ bcp47_outcome bcp47_canonical(const bcp47_registry *registry, const char *text, 
 bcp47_outcome bcp47_extlang(const bcp47_registry *registry, const char *text, size_t length, char *buffer, size_t room);
 bcp47_outcome bcp47_classify(const bcp47_registry *registry, const char *text, size_t length, char *buffer, size_t room);
 
-/* The text of a tag in conventional case, as bcp47_classify writes it, and its parts, one for each subtag, in their order:
-   joined by hyphens they are the text. It asks no registry. `place` is how many parts there are. Where they or the text do
-   not fit, neither is written, and the status is BCP47_BUFFER_TOO_SMALL. */
+/* The text of a tag in conventional case, as bcp47_classify writes it, and its parts, in their order: one for each subtag, or one
+   for a whole grandfathered tag. Joined by hyphens they are the text. It asks no registry. `place` is how many parts there are. Where
+   they or the text do not fit, neither is written, and the status is BCP47_BUFFER_TOO_SMALL. */
 bcp47_outcome bcp47_parts(const char *text, size_t length, char *buffer, size_t room, bcp47_part *parts, size_t count);
 
 /* The parent of a tag, to which lookup falls back (RFC 4647, 3.4): without its last subtag, and without the singletons that then
-   end it. The text is empty where nothing is left. */
+   end it. The text is empty where nothing is left, as of a grandfathered tag, which is one part. */
 bcp47_outcome bcp47_parent(const char *text, size_t length, char *buffer, size_t room);
 
 /* A tag with one of its parts replaced: "zh-Hant-TW" for "zh-TW", BCP47_PART_SCRIPT and "Hant". The part is BCP47_PART_LANGUAGE (with
