@@ -54,6 +54,7 @@ impl TraceFault {
     }
 }
 
+/// So `?` makes the refusal of a tag that is not valid a fault of its trace; `from_gives` says which.
 impl From<ValidRefusal> for TraceFault {
     ghost from_gives = { λ refused fault. fault ≡ of_invalid refused };
 

@@ -25,13 +25,13 @@ available_next R texts n lists list h k = record {
       (subst (λ (x : List (List ℕ)). HasSubtags R (text_at texts n) x) (sym (get_or_push lists list [] n h.counted)) k);
 }
 
--- the text at a place, as contracts see it, is the one at that place of the texts as contracts see them
+-- the text that the loop reads at place `n` is the one that contracts see there
 pub text_read : (texts : List (Bor (List ℕ))) (n : ℕ) (d : Bor (List ℕ)) → n < length texts
     → (get_or texts n d).now ≡ text_at (map (λ (text : Bor (List ℕ)). text.now) texts) n
 text_read texts n d within = sym (get_or-map (λ (text : Bor (List ℕ)). text.now) texts n d [] within)
 
--- if each text before a place has its list, the refusal of the text there, with its number, is that of the list of
--- texts
+-- if each text before place `n` has its list, and the text there is refused by the number `n + 1`, this is the refusal
+-- of all the texts
 pub refused_at : (R : List EntryParts) (texts : List (Bor (List ℕ))) (n : ℕ) (d : Bor (List ℕ)) (lists : List
     (List (List ℕ))) (refused : AvailableRefusal) → n < length texts
     → AreAvailable R (map (λ (text : Bor (List ℕ)). text.now) texts) n lists → refused.place ≡ n + 1

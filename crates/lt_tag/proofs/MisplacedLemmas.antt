@@ -22,9 +22,10 @@ use Rattle.lt_tag.proofs.ListedLemmas.{listed_next, listed_stop, front_next, fro
 use Rattle.lt_tag.proofs.TextLemmas.{text_list}
 use Rattle.lt_tag.proofs.DraftLemmas.{closed_shaped, closed_spells, draft_begins, draft_of, drafted_by, drafted_is, shaped_drafts, x_is}
 
--- ---- the value of a list, its first misplaced subtag, or that it is unfinished
+-- ---- the tag that a list spells, its first misplaced subtag, or that it is unfinished
 
--- a draft, if there is one, becomes by two lists what it becomes by the first and then by the second
+-- taking the subtags of two lists, joined, makes of a draft, if there is one, what taking the first list and then the
+-- second makes of it
 drafted_after : (o : Option Draft) (xs ys : List (List ℕ)) → option_and_then (λ d. drafted_by d (xs ++ ys)) o
     ≡ option_and_then (λ d. drafted_by d ys) (option_and_then (λ d. drafted_by d xs) o)
 unfolding drafted_by
@@ -32,13 +33,14 @@ drafted_after None xs ys = refl
 drafted_after (Some d) [] ys = refl
 drafted_after (Some d) (s ∷ xs) ys = drafted_after (drafted d s) xs ys
 
--- the draft of a list with ys after it is what the draft of the list, which is not empty, becomes by ys
+-- the draft of a list that is not empty, with ys after it, is what the draft of the list becomes when it takes ys
 pub draft_of-append : (s : List ℕ) (xs ys : List (List ℕ))
     → draft_of (s ∷ xs ++ ys) ≡ option_and_then (λ d. drafted_by d ys) (draft_of (s ∷ xs))
 unfolding draft_of
 draft_of-append s xs ys = drafted_after (begun s) xs ys
 
--- a draft that takes the subtags ss keeps its shape and spells them at its end
+-- a draft whose parts have their shapes (`IsDraft`), and that takes the subtags ss, is such a draft again, and spells
+-- them at its end
 drafted_by_is : (draft : Draft) (ss : List (List ℕ)) (more : Draft) → IsDraft draft → drafted_by draft ss ≡ Some more
     → IsDraft more × (spell_draft more ≡ spell_draft draft ++ ss)
 unfolding drafted_by

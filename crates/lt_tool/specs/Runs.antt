@@ -121,7 +121,8 @@ IsFound (Ok None) result = result ≡ Ok (answers.Written status.Refused)
 IsFound (Ok (Some line)) result = PrintsLine line.items result
 IsFound (Err fault) result = result ≡ Err (faults.Run fault)
 
--- the input was searched for the line of which `Finds` is true, and `result` is what the run came to by that
+-- the lines of the input were searched, `Finds` tells what is found among them, one line or none, and the run came to
+-- `result` by that
 pub record Searches {I : Type 0} (Finds : Finding) (input : Stream I) (result : End) : Type 0 where
   pub end : Result (Option (Vec ℕ Global)) ToolFault
   pub searches : SearchesLines Finds input.bytes input.before input.after end
