@@ -21,8 +21,8 @@ pub record IsStoppedByRead {I : Type 0} (P : Selection) (input input' : Device I
   pub failed : HasFailed input input'
   pub owed : IsOwedToLastFeed P text written
 
--- all reads that a run may make were made, each gave a byte at least, also the last; the lines of the text that are
--- selected up to the last line feed were written
+-- all reads that a run may make were made, they gave at least as many bytes, the last gave some; the lines of the text
+-- that are selected up to the last line feed were written
 pub record IsStoppedByTurns {I : Type 0} (P : Selection) (input' : Device I) (reads : ℕ)
     (read text written : List ℕ) : Type 0 where
   pub all_made : reads ≡ most_reads

@@ -210,7 +210,7 @@ text_room T bytes written state count (inr k) most =
 
 -- ---- the ways in which a run ends
 
--- a write or memory failed after `between`, and so after `before`, from which on no write had failed
+-- a write failed or memory ran out after `between`, and so after `before`, from which on no write had failed
 pub stop_from : {W : Type 0} (before between after : Device W) (f : ToolFault)
     → failures_of between ≡ failures_of before → IsStop between after f → IsStop before after f
 stop_from before between after f same (inl wrote) = inl (wrote.0, failed_from before between after same wrote.1)

@@ -228,7 +228,7 @@ module _ {I W A : Type 0} (T : Terms) (U : A → Terms) (text : A → Marked) (r
         → RunsLines T remaining contents input input' output output' (text here).answering.tallies r
     run_memory s = run_taken s.taken.1 (rw s.fault tt) (λ lt. absurd (omega (arith, lt, s.same)))
 
-    -- a run that ends early: a write or memory failed, the text is UTF-16, or a row or a record is too long
+    -- a run that ends early: a write failed or memory ran out, the text is UTF-16, or a row or a record is too long
     run_stopped : (f : ToolFault) → r ≡ Err f → failures_of input' ≡ failures_of input → (written : List ℕ)
         → Appends (contents (inner_of output)) (contents (inner_of output')) written
         → EndsText T output output' p.read written (text here).answering.tallies f

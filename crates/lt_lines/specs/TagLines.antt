@@ -55,8 +55,8 @@ pub record OwesFront (R : List EntryParts) (bytes written : List ℕ) : Type 0 w
   pub owes : Owes R lines all
   pub front : Begins written all
 
--- how a run ended that read the bytes `read` in `reads` reads: with its counts, or by one of these four faults, no
--- other
+-- how a run ended that read the bytes `read` in `reads` reads: with its counts, or by one of these four faults and no
+-- other, and how much of what is owed was written
 abbrev pub EndsTags : {I O : Type 0} → List EntryParts → (I → Option (List ℕ)) → (input input' : Device I)
     → (output output' : Device O) → ℕ → (read written : List ℕ) → Result Counts ToolFault → Type 0
 EndsTags R remaining input input' output output' reads read written (Ok counts) =
