@@ -1,4 +1,5 @@
--- Lines that are answered by objects.
+-- Lemmas for `write_objects`: the objects for some lines and for one more are the objects for all, and a run that
+-- answers lines by a state is one that answers them by what the state says.
 use Rattle.std.proofs.Common.{◌≡◌, ℕ, Bool, true, false, List, [], ◌∷◌, ◌++◌, refl, ◌∙◌, ap, append_assoc}
 use Rattle.std.specs.Prelude.{◌||◌, Option, Result, Ok, Err}
 use Rattle.lt_jar.specs.Lines.{content_of, lines_of}

@@ -1,4 +1,5 @@
--- What is judged of a line is its verdict, and nothing else is.
+-- Judging the lines of an explanation one by one (`Judges`) gives the verdict that is defined on all of them
+-- (`IsVerdict`), and lines have only one verdict. The place and the number of a step that leads on have 32 bits.
 use Rattle.std.proofs.Common.{drop, ◌≡◌, ◌≢◌, ◌<◌, ◌^◌, ◌++◌, ◌∷◌, ◌∙◌, ◌==◌, ℕ, List, [], Option, Some, Bool, true}
 use Rattle.std.proofs.Common.{sym, ap, refl, arith, map, get_or, ◌≤◌, ◌+◌, inl, inr, length, append_assoc}
 use Rattle.std.proofs.Common.{length-append, decimal, None, subst, append-nil, false, Ordering, flat_map}

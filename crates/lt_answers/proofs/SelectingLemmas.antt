@@ -1,4 +1,5 @@
--- What a run that selects lines did.
+-- Lemmas for `select_lines`: a run over a text that answers each line by itself or by nothing writes the lines that are
+-- selected, and counts them.
 use Rattle.std.proofs.Common.{◌≡◌, ◌≤◌, ◌+◌, ◌++◌, ◌∷◌, ◌∙◌, inl, inr, ℕ, List, [], Bool, true, false, Option, Result}
 use Rattle.std.proofs.Common.{Ok, Err, length, take, sym, ap, refl, subst, arith, append-nil, length-append, take_all}
 use Rattle.lt_jar.specs.Lines.{whole_lines}

@@ -1,4 +1,4 @@
--- Lines of which some are selected.
+-- Lemmas on which lines are selected: with one line more, and the law that only one list of lines is.
 use Rattle.std.proofs.Common.{◌≡◌, ◌++◌, ◌∷◌, ◌∙◌, inl, inr, ℕ, List, [], ap, refl, sym}
 use Rattle.lt_registry.specs.Parts.{EntryParts}
 use Rattle.lt_answers.specs.Laws.{SelectionIsDetermined}

@@ -195,8 +195,8 @@ impl<'a, L: Lookup> Pieces<()> for Verifying<'a, L> {
 }
 
 /// Judges the lines of a reader as an explanation of a tag (RFC 5646, 4.5). For example, the lines `Language 1 4 he-IL`
-/// and `= he-IL` explain `iw-IL` if record 4 has the value `he` for `iw`. The tag must be proper by the table: a valid
-/// tag is, and so is one that would be valid if it repeated no variant.
+/// and `= he-IL` explain `iw-IL` if record 4 has the value `he` for `iw`. The tag must be proper by the table: valid,
+/// except that it may repeat variants.
 ///
 /// The lines are read up to the first that settles the verdict, or to the end. Of an unfinished line at most 38 bytes
 /// are kept, or as many as a right line has, besides the bytes of one read. After the line of the end nothing is kept.

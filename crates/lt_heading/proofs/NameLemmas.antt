@@ -1,4 +1,5 @@
--- The names of a heading, one after another, as `look_up_in_row` reads, lists and compares them.
+-- Lemmas for `look_up_in_row`, which reads the names of a heading one after another, lists them and compares each with
+-- the name that is looked for: what is true of the names so far is true with one more.
 use Rattle.std.proofs.Common.{◌≡◌, ◌≢◌, ◌+◌, ◌++◌, ◌∷◌, ◌∙◌, ℕ, Bool, true, false, List, [], inl, inr, length, nat_lt}
 use Rattle.std.proofs.Common.{sym, ap, refl, subst, arith, append_assoc, append-nil, length-append}
 use Rattle.std.proofs.lemmas.Bool.{cases_Bool, ltb-false, ltb-true}

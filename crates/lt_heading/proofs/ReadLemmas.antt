@@ -1,4 +1,5 @@
--- The heading of a reader's bytes, and the column that `find_column` finds in it.
+-- Lemmas for `find_column`: what a run over pieces reads is the heading of the reader's bytes, or tells why there is
+-- none, and the column that is picked in it is the one that is found.
 use Rattle.std.proofs.Common.{◌≡◌, ◌≤◌, ◌<◌, ◌++◌, ◌∷◌, ◌∙◌, inl, inr, ℕ, List, [], Option, Some, None, Result, Ok, Err}
 use Rattle.std.proofs.Common.{length, ap, refl, subst, arith, append_assoc, length-append}
 use Rattle.std.specs.Io.KnownBytes.{IsAtEnd}

@@ -1,4 +1,4 @@
--- Where line feeds end rows: in TSV each does, in CSV each outside of quotes.
+-- Where rows end: in TSV each line feed ends one, in CSV each line feed outside of quotes. The other files use this.
 use Rattle.std.proofs.Common.{◌≡◌, ◌≢◌, ◌<◌, ◌++◌, ◌∷◌, ℕ, List, [], true, false, length, refl, arith}
 use Rattle.std.proofs.lemmas.List.Elements.{All-append}
 use Rattle.lt_jar.specs.Lines.{IsOneLine}

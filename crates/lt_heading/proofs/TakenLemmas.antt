@@ -1,4 +1,5 @@
--- The loop of `take_text` over a piece, which is appended to a text that is one row so far.
+-- Lemmas for the loop of `take_text`, which appends a piece to a text that is one row so far: what is true at each turn
+-- of it (`TextTurn`), and what it gives where the row ends, goes on or gets too long.
 use Rattle.std.proofs.Common.{◌≡◌, ◌++◌, ◌∷◌, ◌∙◌, inl, inr, ℕ, List, [], Some, None, Ok, Err, true, false, length, sym}
 use Rattle.std.proofs.Common.{ap, refl, append_assoc, append-nil}
 use Rattle.lt_jar.specs.Lines.{IsOneLine}

@@ -1,4 +1,5 @@
--- What is answered at the end of the bytes, or where a row or a record is too long.
+-- Lemmas for `Answering::finish` and `stop_long`: what was answered, written and tallied of the bytes that were read
+-- once they end, also within quotes, or where a row or a record is too long.
 use Rattle.std.proofs.Common.{Result, Ok, Err, OnOk, ◌≡◌, ◌≤◌, ◌<◌, ◌+◌, ◌++◌, ◌∷◌, ◌∙◌, ℕ, List, [], true, false}
 use Rattle.std.proofs.Common.{length, sym, ap, refl, arith, append_assoc, append-nil, inl, inr, length-append, ◌==◌}
 use Rattle.std.proofs.Common.{◌-◌}

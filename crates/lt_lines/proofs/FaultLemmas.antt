@@ -1,4 +1,5 @@
--- What is before the first byte of some kind, as the name of a fault is before the first space.
+-- Lemmas for `fault_in` and `told_in`, which read the name of a fault off an answer: it is what is before the first
+-- space there, behind a number of bytes that are left out.
 use Rattle.std.proofs.Common.{◌≡◌, ◌-◌, ◌++◌, ◌∙◌, ℕ, List, Some, None, cond, drop, length, min, nat_lt, take, take_all, sym, ap, inl, inr}
 use Rattle.std.specs.List.{before_first, position, position_or_len}
 use Rattle.std.specs.Prelude.{Bool}

@@ -1,4 +1,5 @@
--- Lines by their form, and line feeds.
+-- Lemmas on the lines of a text by their form (tags, rows of TSV or records of CSV), which most other files use: which
+-- lines a text has, where it is within quotes, and how many line feeds it has.
 use Rattle.std.proofs.Common.{◌≡◌, ◌≢◌, ◌≤◌, ◌<◌, ◌+◌, ◌++◌, ◌∷◌, ◌∙◌, ℕ, List, [], true, false, length, ap, refl}
 use Rattle.std.proofs.Common.{arith, append_assoc, length-append, cond, ◌==◌, ne_eqb}
 use Rattle.std.specs.List.{AllByRecursion}

@@ -1,4 +1,5 @@
--- Lines of rows that are looked at before they are answered.
+-- Lemmas for `line_looks`, where a row is looked at before it is answered: a look at the row without the carriage
+-- return that may end its line tells whether the line ends within quotes, and what a piece lacks its lines lack.
 use Rattle.std.proofs.Common.{refl, ◌≡◌, ◌≢◌, ◌≤◌, ◌<◌, ◌+◌, ◌-◌, ◌&&◌, ◌++◌, [], ◌∷◌, ◌∙◌, ℕ, Bool, true, false, List}
 use Rattle.std.proofs.Common.{Option, Some, None, MatchOption, inl, inr, length, sym, ap, arith, subst, take, drop}
 use Rattle.std.proofs.Common.{if◌then◌else◌, append_assoc, length-append}

@@ -1,4 +1,5 @@
--- What is owed for a text that may begin with a byte order mark.
+-- Lemmas on a text that may begin with a byte order mark, for `marked` and `runs`: a state that was right for the bytes
+-- of the text is right for those after its mark, and what was written is the mark and what is owed after it.
 use Rattle.std.proofs.Common.{◌≡◌, ◌<◌, ◌+◌, ◌++◌, ◌∙◌, ℕ, List, [], length, sym, ap, refl, subst, arith, append-nil}
 use Rattle.std.proofs.Common.{length-append, inl, inr}
 use Rattle.std.proofs.lemmas.List.{nil_from_length, take_all}

@@ -1,4 +1,5 @@
--- What the turns of the loop of `Answering::take_piece` over a piece of lines keep.
+-- Lemmas for the loop of `Answering::take_piece`: what is true at each turn of it, that is, after each line of a piece
+-- (`PieceTurn`), stays true in the next one, and gives what is said of the piece where the loop ends or stops.
 use Rattle.std.proofs.Common.{◌≡◌, ◌≤◌, ◌+◌, ◌++◌, ◌∷◌, ◌∙◌, inl, inr, ℕ, List, [], Option, Result, Ok, Err, OnOk}
 use Rattle.std.proofs.Common.{length, take, sym, ap, refl, subst, arith, append_assoc, append-nil, length-append}
 use Rattle.std.specs.Io.KnownBytes.{Appends}

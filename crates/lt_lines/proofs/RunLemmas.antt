@@ -1,4 +1,5 @@
--- What holds of a text while it is read, and how a run over lines ends.
+-- Lemmas for `run_tallied`: what is true of a run while it reads a text (`IsReading`) stays true from piece to piece,
+-- and a run over pieces, however it ends, is a run over the lines (`runs_lines`).
 use Rattle.std.proofs.Common.{◌≡◌, ◌+◌, ◌++◌, ◌∙◌, inl, inr, ℕ, List, [], Option, Result, Ok, Err, length, sym, ap}
 use Rattle.std.proofs.Common.{refl, arith, append-nil, ◌<◌, ◌^◌}
 use Rattle.std.specs.Io.KnownBytes.{Appends, IsAtEnd}

@@ -1,4 +1,5 @@
--- What was taken of lines that come in pieces, and the answers to it.
+-- Lemmas for the steps of `Answering`. If the state was right for the bytes read and written so far (`IsTaken`), it is
+-- right after each step: a line is answered, the unfinished line goes on, or answers are written.
 use Rattle.std.proofs.Math.Bool.{and-true, and-false}
 use Rattle.std.proofs.Common.{◌&&◌, ◌≡◌, ◌<◌, ◌+◌, ◌++◌, ◌∷◌, ◌∙◌, ℕ, List, [], Bool, true, false, length, sym, ap}
 use Rattle.std.proofs.Common.{refl, subst, arith, append_assoc, append-nil, length-append, suc, cond, ◌==◌, ne_eqb}

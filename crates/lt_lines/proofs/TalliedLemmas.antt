@@ -1,4 +1,5 @@
--- One line more that is counted if it is refused.
+-- Lemmas for `count_if`: the tallies of some lines become those of these lines and a further one, which is counted if
+-- it is refused.
 use Rattle.std.proofs.Common.{◌≡◌, ◌≤◌, ◌<◌, ◌+◌, ◌++◌, ◌∷◌, inl, inr, ℕ, List, [], Bool, true, false, length, ap, refl, subst, arith}
 use Rattle.lt_stream.specs.Tallies.{Refused}
 use Rattle.lt_stream.specs.declared.tallies.Tally.{Tally}

@@ -1,4 +1,5 @@
--- The call that answers the end of a text that may begin with a byte order mark.
+-- Lemmas for `Marked::finish`, which answers the end of a text that may begin with a byte order mark: what is true of
+-- the end of its lines is true of the end of the text.
 use Rattle.std.proofs.Common.{Result, Ok, Err, ◌≡◌, ◌++◌, ◌∙◌, ◌⊎◌, ℕ, List, [], true, false, Option, sym, ap, refl}
 use Rattle.std.proofs.Common.{subst, append_assoc, inl, inr}
 use Rattle.std.proofs.KnownBytes.{Appends-trans}

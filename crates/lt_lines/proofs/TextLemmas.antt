@@ -1,4 +1,6 @@
--- What is owed for a text by its first bytes: a long one is too long, and a canonical one is no refusal. Answers that were given lately.
+-- Lemmas on the answer that is owed for a text. The front that is kept of a long line has the same answer as the line.
+-- A canonical text never begins with `! `, as an answer that refuses does. The cache of answers that were given lately
+-- stays right where an answer is put into it.
 use Rattle.std.proofs.Common.{map, ◌≡◌, ◌≤◌, ◌<◌, ◌+◌, ◌-◌, ◌++◌, ◌∷◌, inl, inr, ℕ, List, [], Bool, true, false, length}
 use Rattle.std.proofs.Common.{take, sym, ap, ◌∙◌, append_assoc, refl, subst, arith, if◌then◌else◌, ◌==◌, ◌&&◌, take_all}
 use Rattle.std.proofs.Common.{length-take-le, Option, Result, OnOk, drop, All}

@@ -1,4 +1,5 @@
--- The calls that answer a text that may begin with a byte order mark, piece by piece.
+-- Lemmas for `Marked::begin` and `Marked::take_piece`, which answer a text that may begin with a byte order mark, piece
+-- by piece: what is true of a piece of its lines is true of a piece of the text.
 use Rattle.std.proofs.Common.{Result, Ok, Err, ◌≡◌, ◌↔◌, IsTrue, not, ◌++◌, ◌∷◌, ◌∙◌, ℕ, List, [], Bool, true, false}
 use Rattle.std.proofs.Common.{Option, length, sym, ap, refl, subst, arith, append_assoc, append-nil, length-append, inl}
 use Rattle.std.proofs.Common.{inr}

@@ -1,4 +1,6 @@
--- Where the first field of the rest of a row ends, which is what is left of the row behind fields that are skipped.
+-- Lemmas for the functions of `rows` that find a field. The rest of a row is what is left of it behind the fields that
+-- are skipped. It is proved where the first field of a rest ends, and which places the field after the skipped ones
+-- has.
 use Rattle.std.proofs.Common.{refl, ◌≡◌, ◌≢◌, ◌≤◌, ◌<◌, ◌+◌, ◌-◌, ◌↔◌, ◌++◌, [], ◌∷◌, ◌∙◌, ℕ, zero, suc, Bool, true}
 use Rattle.std.proofs.Common.{false, IsTrue, List, Option, Some, None, inl, inr, length, sym, ap, arith, subst, take}
 use Rattle.std.proofs.Common.{drop, get_or, ne_eqb, append_assoc, append-nil, length-append, take-append-drop}

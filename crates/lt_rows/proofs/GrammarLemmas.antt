@@ -1,4 +1,5 @@
--- A text that no line feed outside of quotes parts, and that does not end within quotes, is a record of the grammar.
+-- One half of the law `records_are_those_of_the_grammar`: a text that no line feed outside of quotes parts, and that
+-- does not end within quotes, is a record of the grammar of RFC 4180. RecordLemmas has the other half.
 use Rattle.std.proofs.Common.{refl, ◌≡◌, ◌≢◌, ◌++◌, [], ◌∷◌, ◌∙◌, ◌⊎◌, ℕ, true, false, List, sym, ap, subst, inl, inr}
 use Rattle.std.proofs.Common.{append_assoc, ne_eqb, ◌==◌, ◌||◌, if◌then◌else◌}
 use Rattle.std.specs.List.{AllByRecursion}

@@ -1,4 +1,5 @@
--- What the first bytes of a text say of its byte order mark.
+-- Lemmas on byte order marks, for `marks` and for texts that come in pieces: once the first bytes of a text can't be a
+-- part of a mark any more, no bytes that follow change which mark the text has.
 use Rattle.std.proofs.Common.{◌≡◌, ◌≢◌, ◌<◌, ◌++◌, ◌∷◌, ◌==◌, ◌∙◌, ◌⊎◌, ℕ, List, [], Bool, true, length, ap, refl}
 use Rattle.std.proofs.Common.{subst, arith, append_assoc, append-nil, length-append, drop, take, inl, inr, All}
 use Rattle.std.specs.Cmp.Lexicographic.{pointwise}

@@ -1,4 +1,5 @@
--- Where a byte is among the first bytes of a text, of which more are looked at.
+-- Lemmas for `place_within` and `is_free_of_both`, which search the first `count` bytes of a text but look at more,
+-- since a search takes 32 bytes together: what is found there tells where a byte is among the first `count`.
 use Rattle.std.proofs.Common.{◌≡◌, ◌≢◌, ◌≤◌, ◌<◌, ◌+◌, ◌==◌, ◌||◌, ◌++◌, ◌∷◌, ◌∙◌, ℕ, List, length, sym, ap, arith}
 use Rattle.std.proofs.Common.{subst, take, drop, get_or, add-one, take-append-drop, inl, inr, refl}
 use Rattle.std.proofs.Math.Seq.{drop-cons}

@@ -1,4 +1,5 @@
--- Rows in which each separator parts fields.
+-- Lemmas for `plain_field_at` and `short_field_at`, which find a field in a plain row: one in which each separator
+-- parts fields, so that fields end at the next places of the separator.
 use Rattle.std.proofs.Common.{◌≡◌, ◌≢◌, ◌≤◌, ◌<◌, ◌+◌, ◌-◌, ◌==◌, [], ◌∷◌, ◌∙◌, ℕ, zero, suc, List, Option, Some, None}
 use Rattle.std.proofs.Common.{inl, inr, length, sym, ap, arith, subst, take, drop, get_or}
 use Rattle.std.proofs.lemmas.Bool.{eq-eqb, eqb-true, cases_Bool}

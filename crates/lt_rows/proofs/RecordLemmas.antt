@@ -1,4 +1,5 @@
--- A record of the grammar is a text that no line feed outside of quotes parts, and that does not end within quotes.
+-- One half of the law `records_are_those_of_the_grammar`: no line feed outside of quotes parts a record of the grammar
+-- of RFC 4180, and it does not end within quotes. GrammarLemmas has the other half.
 use Rattle.std.proofs.Common.{refl, ◌≡◌, ◌≢◌, ◌++◌, [], ◌∷◌, ◌∙◌, ℕ, true, false, List, ap, subst, sym, inl, inr}
 use Rattle.std.proofs.Common.{append_assoc, ne_eqb, arith}
 use Rattle.std.specs.List.{AllByRecursion}

@@ -1,4 +1,5 @@
--- What is within quotes, records, and the fields of a row.
+-- Lemmas on the definitions of Quotes and Rows, which most other files use: which place (within quotes or outside)
+-- comes after a text, where records end, and what is left of a row behind skipped fields.
 use Rattle.std.specs.List.{AllByRecursion}
 use Rattle.std.proofs.Math.Bool.{and-false}
 use Rattle.std.proofs.Common.{refl, ◌≡◌, ◌≢◌, ◌<◌, ◌+◌, ◌-◌, ◌==◌, ◌++◌, [], ◌∷◌, ◌∙◌, ℕ, true, false, List, length}

@@ -1,4 +1,5 @@
--- When a device failed in a run of calls, and what the turns of a loop that writes a text keep.
+-- Lemmas for calls that write texts to a device, as `write_text` and `write_fault` do: what several writes one after
+-- another have written together, and that a device that failed in one of them has failed since the first.
 use Rattle.std.proofs.Common.{◌≡◌, ◌<◌, ◌⊎◌, ℕ, subst, ◌+◌, ◌-◌, ◌++◌, List, Option, Result, Ok, Err, IfOk, IfErr}
 use Rattle.std.proofs.Common.{append_assoc, take-append-drop, take, drop, length, sym, ap, ◌∙◌}
 use Rattle.lt_jar.specs.Devices.{HasFailed, failures_of, greatest_count, inner_of}

@@ -1,4 +1,6 @@
--- What the turns over a piece of lines keep, and how a run over lines ends.
+-- Lemmas for `Lined::take_piece` and `run_lines`. What is true at each turn of the loop over the lines of a piece
+-- (`PieceTurn`) stays true in the next one, and makes the piece taken at the end. A run over pieces of lines, however
+-- it ends, is a run over the lines (`runs_over`).
 use Rattle.std.proofs.Common.{◌≡◌, ◌<◌, ◌+◌, ◌^◌, ◌⊎◌, ◌++◌, ◌∷◌, ◌∙◌, inl, inr, ℕ, List, [], Option, Result, Ok, Err}
 use Rattle.std.proofs.Common.{length, sym, ap, refl, arith, append_assoc, append-nil, length-append}
 use Rattle.std.specs.Io.KnownBytes.{Appends}

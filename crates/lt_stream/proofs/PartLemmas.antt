@@ -1,4 +1,4 @@
--- What is kept of a line that comes in pieces: its first bytes, at most `longest`.
+-- What is kept of a line that comes in pieces is its first bytes, at most `longest`, as `Lined::keep` keeps them.
 use Rattle.std.proofs.Common.{◌≡◌, ◌<◌, ◌+◌, ◌-◌, ◌==◌, ◌++◌, ◌∙◌, inl, inr, ℕ, List, [], true, false, length, take}
 use Rattle.std.proofs.Common.{sym, ap, arith, append-nil}
 use Rattle.std.proofs.lemmas.Bool.{eqb-true, eqb-false}

@@ -1,4 +1,5 @@
--- What the turns of a run over pieces keep, and how it ends.
+-- Lemmas for `run_pieces`. What is true at each turn of its loop, that is, after each read (`RunTurn`), stays true in
+-- the next one, and each of the five ways in which the loop ends is one that the contract allows.
 use Rattle.std.proofs.Common.{◌≡◌, ◌≤◌, ◌<◌, ◌+◌, ◌*◌, ◌++◌, ◌∙◌, inl, inr, ℕ, List, [], Option, None, Result, Ok, Err}
 use Rattle.std.proofs.Common.{length, refl, sym, subst, arith, append-nil, length-append}
 use Rattle.std.specs.Io.KnownBytes.{Consumes, IsAtEnd, Keeps}

@@ -1,4 +1,5 @@
--- What a run takes of a text that may begin with a byte order mark.
+-- Lemmas for `Text::take_piece` and `Text::finish`, by whether the first bytes of the text wait, since they may be a
+-- part of a byte order mark, or the text is past its mark. A piece or the end of the text is taken as one of its lines.
 use Rattle.std.proofs.Common.{◌≡◌, ◌≤◌, ◌<◌, ◌+◌, ◌^◌, ◌++◌, ◌∙◌, inl, inr, ℕ, List, [], true, false, Option, Some}
 use Rattle.std.proofs.Common.{None, Result, Ok, Err, length, sym, ap, refl, subst, arith, append_assoc, append-nil}
 use Rattle.std.proofs.Common.{length-append}

@@ -1,4 +1,5 @@
--- How a run ends over a text that may begin with a byte order mark.
+-- Lemmas for `run_text`: a run over the pieces of a text that may begin with a byte order mark, however it ends, is a
+-- run over the lines of the text after the mark (`runs_text`).
 use Rattle.std.proofs.Common.{◌≡◌, ◌<◌, ◌⊎◌, ◌++◌, ◌∙◌, inl, inr, ℕ, List, [], Option, Result, Ok, Err, sym, ap, refl, arith, append-nil}
 use Rattle.std.proofs.KnownBytes.{Appends-nil}
 use Rattle.lt_jar.specs.Devices.{failures_of, inner_of}
