@@ -1,5 +1,6 @@
--- Lemmas on a text that may begin with a byte order mark, for `marked` and `runs`: a state that was right for the bytes
--- of the text is right for those after its mark, and what was written is the mark and what is owed after it.
+-- Lemmas on a text that may begin with a byte order mark, for `marked` and `runs`: how its bytes are split into the
+-- mark and the text after it, that what was written is the mark and then what is owed, also while the first bytes are
+-- still kept, and how a piece ends the run.
 use Rattle.std.proofs.Common.{◌≡◌, ◌<◌, ◌+◌, ◌++◌, ◌∙◌, ℕ, List, [], length, sym, ap, refl, subst, arith, append-nil}
 use Rattle.std.proofs.Common.{length-append, inl, inr}
 use Rattle.std.proofs.lemmas.List.{nil_from_length, take_all}

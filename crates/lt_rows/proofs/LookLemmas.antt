@@ -37,7 +37,8 @@ rest_slice start count text le = sym (drop-take start (count - start) text) ∙ 
 
 -- lemmas on CSV whose delimiter is the byte d, which is no quote (34)
 module _ (d : ℕ) (unquoted : d ≢ 34) where
-  -- the place after fields that separators end, and a rest, is that after the rest alone: it begins as a field does
+  -- the place after fields that separators end, and a rest, is the place after only the rest, since the rest begins
+  -- where a field does
   fresh_after : (fields : List (List ℕ)) (rest : List ℕ) → AllByRecursion (IsEnded (separators.Delimiter d)) fields
       → place_at d places.Fresh (separated (separators.Delimiter d) fields ++ rest) ≡ place_at d places.Fresh rest
   fresh_after [] rest each = refl
