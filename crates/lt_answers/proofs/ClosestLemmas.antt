@@ -204,7 +204,7 @@ takes_closer ranges list line old new f closer counted copied = λ lines lists s
 
 -- ---- lines
 
--- the subtags of some lines, and of one more
+-- the subtags of some lines, and then those of one more, are the subtags of all these lines
 pub lines_more : (R : List EntryParts) (lines : List (List ℕ)) (lists : List (List (List ℕ))) (line : List ℕ) (list
     : List (List ℕ)) → LinesHave R lines lists → LineHas R line list
     → LinesHave R (lines ++ line ∷ []) (lists ++ list ∷ [])

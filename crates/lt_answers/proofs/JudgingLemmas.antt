@@ -109,7 +109,7 @@ judged_behind R n m t here [] lines v nth lead judged =
 judged_behind R n m t here (line ∷ before) lines v nth lead judged =
     inl (lead.0, lead.1, judged_behind R (n + 1) m lead.0 here before lines v (omega arith) lead.2 judged)
 
--- if lines stop at a line that settles a verdict, this verdict is judged of them
+-- if line number `n` settles a verdict after the lines before it, this verdict is judged of all lines
 judged_at : (R : List EntryParts) (t : TagForm) (lines : List (List ℕ)) (n : ℕ) (Holds : TagForm → List ℕ → Type 0)
     (v : Verdict) (s : StopsAt R t lines n Holds)
     → SettlesLine R n s.here s.line v → Judges R 1 (Some t) lines v

@@ -26,8 +26,8 @@ before_none p text none = elim (cases_Bool (nat_lt (position_or_len p text) (len
   | inr far ↦ sym (take_all (position_or_len p text) text (ltb-false _ _ far))
 ]
 
--- the slice of a text without its first `count` bytes; it begins at `least`, which is the text's end if the text is
--- shorter
+-- a text without its first `count` bytes is the slice from `least` on, which is `count`, or the text's end if the text
+-- is shorter
 pub after_front : (text : List ℕ) (count least : ℕ) → least ≡ min count (length text)
     → take (length text - least) (drop least text) ≡ drop count text
 after_front text count least is = take_rest text least ∙ ap (λ n. drop n text) is ∙ drop_min count text

@@ -27,7 +27,8 @@ use Rattle.lt_lines.specs.declared.forms.LineForm.TheVariants as forms
 use Rattle.lt_lines.proofs.FormLemmas.{of_none}
 use Rattle.lt_lines.proofs.PartLemmas.{nothing_kept}
 
--- a line that is the first `count` bytes of a text has for its content the first bytes of the same text
+-- the content of a line is the line without the carriage return that may end it; if the line is the first `count` bytes
+-- of a text, its content is the first bytes of this text too
 pub content_front : (text : List ℕ) (count : ℕ) → count ≤ length text
     → take (length (content_of (take count text))) text ≡ content_of (take count text)
 content_front text count le =
@@ -69,7 +70,7 @@ return_quoted d places.Fresh = outside_closed d 13
 return_quoted d places.Plain = outside_closed d 13
 return_quoted d places.Quoted = refl
 
--- a line and its content end both within quotes, or both outside; `d` is the delimiter
+-- a line and its content both end within quotes, or both end outside; `d` is the delimiter
 content_quoted : (d : ℕ) (line : List ℕ) → is_quoted (place_at d places.Fresh (content_of line)) ≡ is_quoted (place_at d places.Fresh line)
 content_quoted d line = elim (cases_Bool (ends_with_byte 13 line)) [
   | inl e ↦

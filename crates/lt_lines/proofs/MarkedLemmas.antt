@@ -62,7 +62,7 @@ splits_some forms.Tag bytes = ([], bytes, (refl, refl))
 splits_some (forms.Row row) bytes = split_of bytes
 splits_some (forms.Csv row delimiter) bytes = split_of bytes
 
--- where nothing was written, that is a front of what is owed
+-- nothing written is a front of what is owed for any bytes
 pub begun_none : (T : Terms) (bytes : List ℕ) → IsBegunText T bytes []
 begun_none T bytes =
     let s = splits_some T.form bytes in
@@ -212,13 +212,16 @@ text_room T bytes written state count (inr k) most =
 
 -- ---- the ways in which a run ends
 
--- a write failed or memory ran out after `between`, and so after `before`, from which on no write had failed
+-- if a write failed or memory ran out after `between`, and no write had failed from `before` to `between`, then a write
+-- failed or memory ran out after `before`
 pub stop_from : {W : Type 0} (before between after : Device W) (f : ToolFault)
     → failures_of between ≡ failures_of before → IsStop between after f → IsStop before after f
 stop_from before between after f same (inl wrote) = inl (wrote.0, failed_from before between after same wrote.1)
 stop_from before between after f same (inr lacks) = inr (lacks.0, lacks.1 ∙ same)
 
--- a piece of the text after the mark ends the run
+-- If a piece ends the answering of the lines after the mark by the fault `f`, it ends the run over the text by this
+-- fault. `out` was written after the mark before the piece, and `wrote` for it; no write had failed from `before` to
+-- `between`.
 pub piece_stopped : {W : Type 0} (T : Terms) (bytes text out piece wrote mark : List ℕ) (state new : Answering) (before
     between after : Device W) (f : ToolFault) → SplitsText T.form bytes mark (text ++ piece)
     → (MayHaveMark T.form → IsWide bytes → ⊥) → IsTaken T text out state → failures_of between ≡ failures_of before

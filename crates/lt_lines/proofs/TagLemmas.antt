@@ -27,18 +27,18 @@ front_rest zero text = refl
 front_rest (suc n) [] = refl
 front_rest (suc n) (byte ∷ text) = ap (λ (l : List ℕ). byte ∷ l) (front_rest n text)
 
--- the bytes of answers
+-- the bytes of each of the answers
 abbrev bytes_of : List Reply → List (List ℕ)
 bytes_of replies = map (λ (r : Reply). r.bytes) replies
 
--- the bytes of answers, one after another
+-- the bytes of all answers are those of each, one after another
 joined : (replies : List Reply) → bytes_in replies ≡ concat (bytes_of replies)
 joined [] = refl
 joined (r ∷ replies) = ap (λ (l : List ℕ). r.bytes ++ l) (joined replies)
 
 -- `R` is the entries of the registry
 module _ (R : List EntryParts) where
-  -- by what the lines are answered
+  -- the lines are answered by these entries, without codes, as tags
   abbrev T : Terms
   T = terms (record { entries = R; codes = [] }) forms.Tag
 
@@ -59,7 +59,7 @@ module _ (R : List EntryParts) where
   owed_lines first (line ∷ lines) [] each = absurd each
   owed_lines first (line ∷ lines) (r ∷ replies) each = (owed_line line r each.0, owed_lines false lines replies each.1)
 
-  -- as many of them are refusals as begin with `! `
+  -- as many of the answers are refusals as begin with `! `
   refused_lines : (first : Bool) (lines : List (List ℕ)) (replies : List Reply) → AreRepliesFrom T first lines replies
       → refused_in replies ≡ count_by is_refusal (bytes_of replies)
   refused_lines first [] [] each = refl
@@ -79,7 +79,7 @@ module _ (R : List EntryParts) where
     all = all ∙ joined replies;
   }
 
-  -- no mark is looked for before tags
+  -- since no mark is looked for before tags, what is true after the mark is true of all bytes
   unmarked : (P : (text more : List ℕ) → Type 0) (read written : List ℕ) → AfterMark T P read written → P read written
   unmarked P read written a =
       let same : a.more ≡ written = sym (a.written_is ∙ ap (λ (m : List ℕ). m ++ a.more) a.split.0) in

@@ -101,7 +101,7 @@ marked text listed = by_pieces (pieces text) (from_HasList (33 ∷ text) listed)
     by_pieces [] h = cc
     by_pieces (p ∷ ps) h = cc
 
--- a list of subtags begins with another byte than an exclamation mark (33)
+-- a list of subtags does not begin with an exclamation mark (33)
 unmarked_byte : (byte : ℕ) (text : List ℕ) → HasList (byte ∷ text) → (byte == 33) ≡ false
 unmarked_byte byte text listed = elim (cases_Bool (byte == 33)) [
   | inl e ↦ absurd (marked text (subst (λ (b : ℕ). HasList (b ∷ text)) (eqb-true byte 33 e) listed))

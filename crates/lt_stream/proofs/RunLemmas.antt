@@ -14,8 +14,9 @@ use Rattle.lt_stream.specs.declared.faults.ToolFault.TheVariants as faults
 use Rattle.lt_stream.proofs.DeviceLemmas.{failed_from}
 use Rattle.lt_stream.proofs.ReadLemmas.{ReadsPiece, read_more}
 
--- So far `turn` reads gave the bytes `read`, at least one byte and at most 65,536 each, no read has failed, and T is
--- true of what took the bytes. The output was `start` at the beginning of the run, and is `now` here.
+-- So far `turn` reads gave the bytes `read`, at least as many and at most 65,536 times as many, the last of them gave
+-- some, no read has failed, and T is true of what took the bytes. The output was `start` at the beginning of the run,
+-- and is `now` here.
 pub record RunTurn {I O P : Type 0} (T : RunFact O P) (remaining : I → Option (List ℕ)) (input input' : Device I)
     (start now : O) (state : P) (turn : ℕ) : Type 0 where
   pub read : List ℕ
