@@ -65,9 +65,9 @@ fn line_of(alloc: Global, whose: &str, shown: &str, listed: &str) -> Result<Stri
     Ok(line)
 }
 
-/// The number of the only column that has a name, by what `looked` says. If there is none, or more than one, the
-/// refusal is the line that says so; and `OutOfMemory`. `looked` doesn't keep the names of the heading, so the clause
-/// holds for every list of names of which it is true.
+/// The number of the only column that has a name, by what `looked` says. If there is none, or more than one, it is
+/// refused with the line that says so; if memory runs out, with `Heading(OutOfMemory)`. `looked` doesn't keep the names
+/// of the heading, so the clause holds for every list of names of which it is true.
 fn pick_column(alloc: Global, looked: &Looked, name: &str) -> Result<usize, ColumnFault>
     ensures { (names : List (List ℕ)) → IsFound name.now names looked.now.found → string_bytes looked.now.listed ≡ shown_names names → PicksColumn name.now names result }
 {

@@ -123,8 +123,8 @@ fn append_listed(
     Ok(())
 }
 
-/// What was found of a name among `count` names. `listed` is the list of the first 64 of them, to which it is added how
-/// many more there are, for example ` and 3 more`. Refused where memory runs out.
+/// What was found of a name among `count` names. `listed` is the list of the first 64 of them. If there are more, their
+/// number is added to it, for example ` and 3 more`. Refused where memory runs out.
 fn looked_among(
     alloc: Global,
     found: Found,

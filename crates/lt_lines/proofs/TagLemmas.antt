@@ -52,6 +52,7 @@ module _ (R : List EntryParts) where
         | inr a ↦ inr a.0
       ]
 
+  -- the answers that are owed for lines are the lines that are owed for their texts
   owed_lines : (first : Bool) (lines : List (List ℕ)) (replies : List Reply) → AreRepliesFrom T first lines replies
       → AreOwedLines R lines (bytes_of replies)
   owed_lines first [] [] each = refl
@@ -71,6 +72,7 @@ module _ (R : List EntryParts) where
       ∙ ap (λ (n : ℕ). cond (is_refusal r.bytes) 1 0 + n) (refused_lines false lines replies each.1)
       ∙ sym (sum_by-cons (λ (l : List ℕ). cond (is_refusal l) 1 0) r.bytes (bytes_of replies))
 
+  -- the bytes of the answers that are owed for lines are what is owed for the lines
   owes : (lines : List (List ℕ)) (replies : List Reply) (written : List ℕ) → AreReplies T lines replies
       → written ≡ bytes_in replies → Owes R lines written
   owes lines replies written each all = record {
@@ -85,10 +87,12 @@ module _ (R : List EntryParts) where
       let same : a.more ≡ written = sym (a.written_is ∙ ap (λ (m : List ℕ). m ++ a.more) a.split.0) in
       subst (λ (t : List ℕ). P t written) a.split.1 (subst (λ (m : List ℕ). P a.text m) same a.holds)
 
+  -- whole lines of the form `Tag` have no line feed (10)
   each_line : (lines : List (List ℕ)) → AllByRecursion (IsWhole forms.Tag) lines → AllByRecursion IsOneLine lines
   each_line [] each = tt
   each_line (line ∷ lines) each = (each.0.unit, each_line lines each.1)
 
+  -- what is owed up to the last line feed, of lines of the form `Tag`, is what is owed for tags
   to_last_feed : (tallies : List Tally) (read written : List ℕ) → AfterMark T (TalliesToLastFeed T tallies) read written
       → OwesToLastFeed R read written
   to_last_feed tallies read written a =
@@ -102,6 +106,7 @@ module _ (R : List EntryParts) where
         owes = owes o.lines o.owed written o.each o.all;
       }
 
+  -- a front of what is owed for lines of the form `Tag` is a front of what is owed for tags
   begun : (read written : List ℕ) → IsBegunText T read written → OwesFront R read written
   begun read written b = elim b.front [
     | inl f ↦ record {
@@ -128,6 +133,7 @@ module _ (R : List EntryParts) where
   -- `input` and `output` are the devices before the run, `input'` and `output'` those after it
   module _ {I O : Type 0} (remaining : I → Option (List ℕ)) (input input' : Device I) (output output' : Device O)
       (reads : ℕ) (read written : List ℕ) (tallies : List Tally) where
+    -- a run over lines of the form `Tag` ends in a way in which a run over tags may end
     ends_tags : (r : Result Counts ToolFault) → IsBegunText T read written
         → EndsAs T remaining input input' output output' reads read written tallies r
         → EndsTags R remaining input input' output output' reads read written r
@@ -152,6 +158,7 @@ module _ (R : List EntryParts) where
     ends_tags (Err (faults.BadTsv line)) front is = absurd ((unmarked _ read written is.ends).0.long tt)
     ends_tags (Err faults.Utf16) front is = absurd is.looked
 
+  -- a run over lines of the form `Tag` is a run over tags
   pub runs_tags : {I O : Type 0} (remaining : I → Option (List ℕ)) (contents : O → Option (List ℕ))
       (input input' : Device I) (output output' : Device O) (tallies : List Tally) (r : Result Counts ToolFault)
       → RunsLines T remaining contents input input' output output' tallies r → RunsTags R remaining contents input input' output output' r

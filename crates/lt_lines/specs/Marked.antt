@@ -65,7 +65,7 @@ EndsText T before after bytes written tallies f = (IsStop before after f × IsBe
 
 -- The kept first bytes were split: their mark was written, and what follows it was taken in (`done`); or a fault ended
 -- the run (`stopped`). `old` and `before` are the state and the output before that, `new` and `after` those after it.
--- The counts have as much room after it as they had for the kept bytes and further ones (`room`).
+-- If the counts had room for the kept bytes and `count` further ones, they have room for `count` after it (`room`).
 pub record BeginsText {W : Type 0} (T : Terms) (contents : W → Option (List ℕ)) (old new : Marked)
     (before after : Device W)
     (result : Result (Unit {0}) ToolFault) : Type 0 where

@@ -45,7 +45,7 @@ const FULL: usize = 65536;
 pub(crate) struct Answering {
     /// The front of the last line, which no line feed ended so far.
     kept: Vec<u8>,
-    /// Where the kept bytes of a record of CSV end: a line feed within quotes does not end the record.
+    /// The place at the end of the kept bytes, within quotes or outside: a line feed within quotes ends no record.
     place: Place,
     /// How many line feeds came so far.
     feeds: u64,
@@ -440,7 +440,7 @@ impl Answering {
 
     /// Takes `piece`, the next bytes of the input, answers the lines that they end, and writes the answers. A last line
     /// without a line feed is kept for the next piece. Refused at a row or a record that is too long, and where memory
-    /// runs out or a write fails. The counts must have room for a line more than `piece` has bytes, each of which may
+    /// runs out or a write fails. The counts must have room for one line more than `piece` has bytes, each of which may
     /// be a line feed.
     pub(crate) fn take_piece<L: Lookup, W: Write>(
         &mut self,

@@ -8,8 +8,8 @@ pub struct RowForm {
     /// Whether the first row is a heading. No tag is looked for in it: it is answered by itself and the names of the
     /// fields that are added, `langtag_fault`, or `langtag` and `langtag_fault` if rows are kept.
     pub has_heading: bool,
-    /// Whether rows are kept: then each stays as it is, and two fields are added: the tag's canonical text, which is
-    /// empty if the row is refused, and why the row is refused, which is empty if it is not.
+    /// Whether rows are kept. Then each row stays as it is, and two fields are added: the tag's canonical text, which
+    /// is empty if the row is refused, and why the row is refused, which is empty if it is not.
     pub is_kept: bool,
 }
 
@@ -22,8 +22,8 @@ pub enum LineForm {
     /// A row of fields with a tab between them, one of them a tag. A carriage return that ends the line is no part of
     /// its last field, and a byte order mark of UTF-8 before the first row is no part of that row. If rows are not
     /// kept, the answer is the row with the canonical text in the place of the tag, and a further field, which is
-    /// empty. If the tag is refused, it is the row as it is, and the further field says why; so it does with `NoColumn`
-    /// if there are too few fields.
+    /// empty. If the tag is refused, the answer is the row as it is, and the further field says why; if there are too
+    /// few fields, it says `NoColumn`.
     Row(RowForm),
     /// A record of CSV (RFC 4180, 2): a line, or several lines if line feeds are within quotes. It is answered as a row
     /// is. This byte, a comma in RFC 4180, parts its fields, except within quotes. A quote begins quoted text where a

@@ -11,7 +11,7 @@ use crate::answer_lines::without_return;
 use crate::forms::LineForm;
 use lt_rows::{Lacks, Look, Place, Separator, after_text, lacks_of, look_at};
 
-/// What a text lacks if nothing is known of it: no byte for sure.
+/// What is known to be lacking in a text of which nothing is known: neither carriage returns nor quotes.
 pub(crate) const UNKNOWN: Lacks = Lacks {
     returns: false,
     quotes: false,

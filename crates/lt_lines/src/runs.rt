@@ -22,7 +22,7 @@ use std::mem;
 pub struct Counts {
     /// The lines that were answered.
     pub lines: u64,
-    /// How many of these were refused: by their tag, with `NoColumn`, or with `BadReturn`.
+    /// How many of these were refused: for their tag, or with `NoColumn` or `BadReturn`.
     pub refused: u64,
 }
 

@@ -8,7 +8,7 @@ use lt_jar::Device;
 use std::alloc::Global;
 use std::io::Read;
 
-/// The most reads of one run, which so ends even if the reader never does.
+/// The most reads of one run, so that a run ends even if its reader never does.
 const MOST_READS: u32 = 10_000_000;
 
 /// The most bytes that a read is asked for.
