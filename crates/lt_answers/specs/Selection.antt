@@ -71,7 +71,8 @@ pub record IsOwedToLastFeed (P : Selection) (bytes written : List ℕ) : Type 0 
   pub are : AreSelected P lines selected
   pub all : written ≡ whole_lines selected
 
--- what was written is a front of the selected ones of some first lines of the bytes, each with a line feed
+-- what was written is a front, that is, the first bytes, of the selected ones of some first lines of the bytes, each
+-- with a line feed
 pub record IsBegun (P : Selection) (bytes written : List ℕ) : Type 0 where
   pub lines : List (List ℕ)
   pub others : List (List ℕ)

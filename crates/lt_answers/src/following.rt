@@ -19,7 +19,7 @@ use std::io::Read;
 /// Lines that come in pieces, and what they lead to.
 #[derive(Drop)]
 pub(crate) struct Following {
-    /// The front of the last line, which no line feed ended so far.
+    /// The front of the last line, which no line feed ended so far: its bytes up to here.
     kept: Vec<u8>,
     /// The tag to which the lines before that lead, or None after the line of the end.
     here: Option<Tag>,

@@ -64,7 +64,7 @@ pub record HasOpenHeading (S : Separator) (bytes : List ℕ) : Type 0 where
   pub one : IsOneRow S text
   pub inside : is_open S text ≡ true
 
--- the text begins with a row that is too long
+-- the text begins with a row that is too long: already the first bytes of that row, `begun`, are too many
 pub record BeginsLong (S : Separator) (text : List ℕ) : Type 0 where
   pub begun : List ℕ
   pub rest : List ℕ
@@ -129,8 +129,8 @@ abbrev pub heading_in : (text : List ℕ) → (end : ℕ) → Option (List ℕ)
 heading_in [] end = None
 heading_in (byte ∷ text) end = Some (take end (byte ∷ text))
 
--- `part` was appended to `old`, the text of a row at whose end the place is the given one, and this gave `new` and
--- the next place; or the row got too long, or memory ran out
+-- `part` was appended to `old`, the text of a row at whose end the place is the given one, and this gave `new`, which
+-- is not too long, and the next place; or the row got too long, or memory ran out
 abbrev pub AppendsPart : Separator → Place → (part old new : List ℕ) → Result Place ToolFault → Type 0
 AppendsPart S place part old new (Ok next) =
     (new ≡ old ++ part) × (next ≡ place_then S place part) × (length new ≤ longest_row)

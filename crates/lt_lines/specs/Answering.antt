@@ -1,4 +1,5 @@
--- How the state of a run changes while lines come in pieces and are answered. No public contract cites this.
+-- How the state of a run changes while lines come in pieces and are answered. A front of some bytes is the first of
+-- them, perhaps none or all. No public contract cites this.
 use Rattle.std.specs.Prelude.{◌≡◌, ◌<◌, ◌≤◌, ◌+◌, ◌-◌, ◌^◌, ◌⊎◌, ℕ, Bool, true, false, List, [], ◌∷◌, ◌++◌, length}
 use Rattle.std.specs.Prelude.{take, Option, Some, None, Result, IfErr, IfOk}
 use Rattle.std.specs.List.{All, AllByRecursion}

@@ -135,7 +135,8 @@ pub record KeepsRow (S : Separator) (G : Ground) (before : ℕ) (line bytes : Li
   pub is_canonical : IsCanonicalTextOf G.entries (registered_text G.codes text) canonical
   pub line_is : bytes ≡ row_line S (with_canonical true S (content_of line) canonical) [] line
 
--- the answer to a row whose field has a canonical text: the text is replaced, or, where rows are kept (true), added
+-- the answer to a row whose field has a canonical text: this replaces the field's text, or, if rows are kept (true), it
+-- is added as a further field
 abbrev pub AnswersOrKeeps : Bool → Separator → Ground → ℕ → (line bytes : List ℕ) → Type 0
 AnswersOrKeeps false S G before line bytes = AnswersRow S G before line bytes
 AnswersOrKeeps true S G before line bytes = KeepsRow S G before line bytes
@@ -341,7 +342,8 @@ pub record EndsTooLong (T : Terms) (bytes written : List ℕ) (line : ℕ) : Typ
   pub all : written ≡ bytes_in owed
   pub begins : line ≡ feeds_in (ended lines) + 1
 
--- what was written is a front of `owed`, the answers that are owed for some first lines of the bytes
+-- what was written is a front, that is, the first bytes, of `owed`, the answers that are owed for some first lines of
+-- the bytes
 pub record IsBegun (T : Terms) (bytes written : List ℕ) : Type 0 where
   pub lines : List (List ℕ)
   pub others : List (List ℕ)

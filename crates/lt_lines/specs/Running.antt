@@ -1,4 +1,5 @@
--- What a run over the lines of a reader read and wrote, and how it ended.
+-- What a run over the lines of a reader read and wrote, and how it ended. What is owed for lines is the answers that a
+-- run has to write, and a front of that is its first bytes, perhaps none or all.
 use Rattle.std.specs.Prelude.{◌≡◌, ◌<◌, ◌≤◌, ◌⊎◌, ℕ, List, [], length, Option, Result, Ok, Err}
 use Rattle.std.specs.Io.KnownBytes.{Appends, Consumes, IsAtEnd}
 use Rattle.lt_jar.specs.Devices.{HasFailed, failures_of, inner_of, last_given_of}

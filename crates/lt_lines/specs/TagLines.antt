@@ -46,7 +46,7 @@ pub record OwesToLastFeed (R : List EntryParts) (bytes written : List ℕ) : Typ
   pub last_one : IsOneLine last
   pub owes : Owes R lines written
 
--- `written` is a front of what is owed for the first lines of the bytes
+-- `written` is a front, that is, the first bytes, of `all`, which is owed for some first lines of the bytes
 pub record OwesFront (R : List EntryParts) (bytes written : List ℕ) : Type 0 where
   pub lines : List (List ℕ)
   pub others : List (List ℕ)

@@ -1,7 +1,7 @@
-//! Answering lines that come in pieces. Of an unfinished line the bytes so far are kept, and answers that are not yet
-//! written are owed. The `terms` of clauses are the registry's entries, the codes and the form of lines. A look at a
-//! row is what was found of it before it is answered (`line_looks`). `recent` has the answers that were given lately;
-//! they are right (`AreRecent`) if each is the answer that is owed for its text.
+//! Answering lines that come in pieces. Of an unfinished line the first bytes, its front, are kept, and answers that
+//! are not yet written are owed. The `terms` of clauses are the registry's entries, the codes and the form of lines. A
+//! look at a row is what was found of it before it is answered (`line_looks`). `recent` has the answers that were given
+//! lately; they are right (`AreRecent`) if each is the answer that is owed for its text.
 ghost use Rattle.std.specs.Prelude.{◌≡◌, ◌≤◌, ◌+◌, ◌++◌, ◌∷◌, ◌↔◌, List, ℕ, [], false, IfOk, IsTrue, OnOk, length, take, vec_len};
 ghost use Rattle.lt_jar.specs.Lines.{IsOneLine};
 ghost use Rattle.lt_registry.specs.Parts.{EntryParts};

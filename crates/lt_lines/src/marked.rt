@@ -72,9 +72,9 @@ impl Marked {
     }
 
     /// Takes the next bytes of the input, answers the lines that they end, and writes the answers. The first bytes wait
-    /// until it is known whether they are a byte order mark. Refused with `Utf16` at that of UTF-16, at a row or a
-    /// record that is too long, and where memory runs out or a write fails. The counts must have room for the lines of
-    /// the kept bytes and of `piece`, and one more.
+    /// until it is known whether they are a byte order mark. Refused with `Utf16` at a byte order mark of UTF-16, at a
+    /// row or a record that is too long, and where memory runs out or a write fails. The counts must have room for one
+    /// line for each byte that is kept or in `piece`, and one more.
     pub(crate) fn take_piece<L: Lookup, W: Write>(
         &mut self,
         alloc: Global,
@@ -101,7 +101,7 @@ impl Marked {
 
     /// Answers a last line without a line feed, if there is one, writes the answers that wait, and gives the counts.
     /// Refused with `BadCsv` if the text ends within quotes, and where memory runs out or a write fails. The counts
-    /// must have room for the lines of the kept bytes, and one more.
+    /// must have room for one line for each byte that is kept, and one more.
     pub(crate) fn finish<L: Lookup, W: Write>(
         &mut self,
         alloc: Global,

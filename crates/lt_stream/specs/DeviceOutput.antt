@@ -6,7 +6,7 @@ use Rattle.lt_jar.specs.declared.devices.Device.{Device}
 use Rattle.lt_stream.specs.declared.faults.ToolFault.{ToolFault}
 use Rattle.lt_stream.specs.declared.faults.ToolFault.TheVariants as faults
 
--- `written` is a front of the text
+-- `written` is a front of the text: its first bytes, perhaps none or all of them
 abbrev pub IsFrontOf : List ℕ → List ℕ → Type 0
 IsFrontOf written text = (rest : List ℕ) × (text ≡ written ++ rest)
 

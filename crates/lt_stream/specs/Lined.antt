@@ -1,6 +1,6 @@
 -- The state of a run that answers lines which come in pieces. No public contract cites this. Q tells what is answered,
 -- `longest` is how many bytes are kept of a line, `contents` tells what a writer has taken, `start` is the output at
--- the beginning of the run, and `now` the output here.
+-- the beginning of the run, and `now` the output here. A front of some bytes is the first of them, perhaps none or all.
 use Rattle.std.specs.Prelude.{◌≡◌, ◌<◌, ◌-◌, ◌⊎◌, ◌++◌, ℕ, List, [], take, vec_len, Option, Result, Ok, Err, IfErr}
 use Rattle.std.specs.Prelude.{IfOk}
 use Rattle.std.specs.List.{AllByRecursion}

@@ -44,7 +44,8 @@ pub record IsAnsweredToLastFeed {A : Type 0} (Q : Answered A) (bytes written : L
   pub last_one : IsOneLine last
   pub answered : Q answers lines written
 
--- what was written is a front of the bytes `all`, which answer some first lines, `lines`, of the bytes that were read
+-- what was written is a front of the bytes `all`, that is, the first of them, perhaps none or all; and `all` answer
+-- some first lines, `lines`, of the bytes that were read
 pub record IsBegun {A : Type 0} (Q : Answered A) (bytes written : List ℕ) : Type 0 where
   pub lines : List (List ℕ)
   pub others : List (List ℕ)

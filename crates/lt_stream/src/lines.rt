@@ -1,5 +1,5 @@
-//! Runs over the lines of a reader. The first bytes of a line are kept until its line feed comes, and the answers that
-//! wait to be written are owed.
+//! Runs over the lines of a reader. The first bytes of a line, its front, are kept until its line feed comes, and the
+//! answers that wait to be written are owed.
 ghost use Rattle.std.specs.Prelude.{◌≡◌, ◌<◌, ◌≤◌, List, ℕ, [], IfOk, OnOk, vec_len};
 ghost use Rattle.lt_stream.specs.Lines.{HasLine, RunsOverLines, TakesLine};
 ghost use Rattle.lt_stream.specs.Lined as spec;
