@@ -56,8 +56,8 @@ pub record PutsLine (line : List ℕ) (list : List (List ℕ)) (old new : List (
   pub lines : texts_of new ≡ texts_of old ++ line ∷ []
   pub lists : tags' ≡ tags ++ list ∷ []
 
--- If `old` are those of any lines that are tags, and `tags` their subtags, then `new` and `tags'` are the same of these
--- lines and one further line, of which `kept` is kept.
+-- If `old` are the tags among any lines, and `tags` their subtags, then `new` and `tags'` are the same for these lines
+-- and one further line, of which `kept` is kept.
 abbrev pub TakesTag : List EntryParts → (kept : List ℕ) → (old new : List (Vec ℕ Global))
     → (tags tags' : List (List (List ℕ))) → Type 0
 TakesTag R kept old new tags tags' = (lines : List (List ℕ)) (line : List ℕ) → kept ≡ take longest_kept line

@@ -90,9 +90,9 @@ SettlesKept R state None = KeepsFew R state.here (length state.kept.items)
 SettlesKept R state (Some v) = (more : List ℕ) → IsOneLine state.kept.items
     → Judges R state.number state.here (lines_of (state.kept.items ++ more)) v
 
--- A piece was taken in. Whatever bytes follow it, their verdict from the new state, after the bytes that are kept
--- there, is also the verdict from the old state on what was kept there, the piece and these bytes (`follows`). The tag
--- to which the lines lead is proper, and at most one line was counted for each byte of the piece.
+-- A piece was taken in. Whatever bytes follow it, the verdict from the new state on what is kept there and these bytes
+-- is also the verdict from the old state on what was kept there, the piece and these bytes (`follows`). The tag to
+-- which the lines lead is proper, and at most one line was counted for each byte of the piece.
 pub record Takes (R : List EntryParts) (piece : List ℕ) (old new : Following) : Type 0 where
   pub proper : IsProperIf R new.here
   pub counted : new.number ≤ old.number + length piece

@@ -13,8 +13,8 @@ use Rattle.lt_lines.specs.declared.runs.Counts.{Counts}
 use Rattle.lt_stream.specs.declared.faults.ToolFault.{ToolFault}
 use Rattle.lt_stream.specs.declared.faults.ToolFault.TheVariants as faults
 
--- The byte order mark of these bytes, if they have one, was written, and then `out`, the answers to the text after it,
--- which was taken in by the state that answers lines. Whatever bytes follow, the mark is the same (`split`) and is none
+-- The byte order mark of these bytes, if they have one, was written, and then `out`, answers to the text after it. That
+-- text was taken in by the state that answers lines. Whatever bytes follow, the mark is the same (`split`) and is none
 -- of UTF-16 (`narrow`).
 pub record IsTakenAfter (T : Terms) (bytes written : List ℕ) (state : Marked) : Type 0 where
   pub begun : state.is_begun ≡ true

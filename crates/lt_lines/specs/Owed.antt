@@ -29,8 +29,8 @@ use Rattle.lt_stream.specs.declared.faults.ToolFault.{ToolFault}
 use Rattle.lt_stream.specs.declared.faults.ToolFault.TheVariants as faults
 use Rattle.lt_lines.specs.declared.runs.Counts.{Counts}
 
--- by what texts are answered: the entries of a registry, and a table of codes: if a text begins with a code, the
--- registered subtag that the table has for it replaces it
+-- What texts are answered by: the entries of a registry, and a table of codes. If a text begins with a code, it is read
+-- with the registered subtag that the table has for the code.
 pub record Ground : Type 0 where
   pub entries : List EntryParts
   pub codes : List Code

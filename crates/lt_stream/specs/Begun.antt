@@ -48,8 +48,8 @@ pub record IsCutAfter {A W : Type 0} (Q : Answered A) (contents : W → Option (
   pub narrow : IsWide bytes → fault ≡ faults.OutOfMemory
   pub cut : IsCutOff Q contents start now text fault
 
--- The fault is Utf16: the bytes begin with a byte order mark of UTF-16, and nothing was written. Nothing is a front of
--- the answers to any text (`begun`).
+-- The fault is Utf16: the bytes begin with a byte order mark of UTF-16, and nothing was written. So the empty list that
+-- was written is a front of the answers to any text (`begun`).
 pub record IsStoppedWide {A W : Type 0} (Q : Answered A) (start now : Device W) (bytes : List ℕ)
     (fault : ToolFault) : Type 0 where
   pub named : fault ≡ faults.Utf16

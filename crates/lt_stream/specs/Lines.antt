@@ -79,7 +79,8 @@ pub record IsStoppedByTurns {I A : Type 0} (Q : Answered A) (input' : Device I) 
 
 -- How the run ended, by its result: done, or with the fault Read, TooManyTurns, Write or OutOfMemory, and no other. It
 -- made so many `reads`, which gave the bytes `read`, and `text` are the bytes of these that are cut into lines. Of an
--- end by OutOfMemory nothing more is said. Names with ' are of the devices after the run.
+-- end by Write only the failure of the output is said, and of an end by OutOfMemory nothing. Names with ' are of the
+-- devices after the run.
 abbrev pub EndsAs : {I O A : Type 0} → Answered A → (I → Option (List ℕ)) → (input input' : Device I)
     → (output output' : Device O) → ℕ → (read text written : List ℕ) → A → Result (Unit {0}) ToolFault → Type 0
 EndsAs Q remaining input input' output output' reads read text written answers (Ok _) =
