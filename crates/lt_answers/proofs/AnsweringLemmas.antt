@@ -1,5 +1,6 @@
--- Lemmas for `write_objects`: the objects for some lines and for one more are the objects for all, and a run that
--- answers lines by a state is one that answers them by what the state says.
+-- Lemmas for `write_objects`: the objects for some lines and for one more are the objects for all. The contract of
+-- `run_lines` is on the whole state that answered the lines. From it follows the contract of `write_objects`, which is
+-- only on whether a line was refused.
 use Rattle.std.proofs.Common.{◌≡◌, ℕ, Bool, true, false, List, [], ◌∷◌, ◌++◌, refl, ◌∙◌, ap, append_assoc}
 use Rattle.std.specs.Prelude.{◌||◌, Option, Result, Ok, Err}
 use Rattle.lt_jar.specs.Lines.{content_of, lines_of}

@@ -1,5 +1,6 @@
 -- Lemmas for `verify_lines`, which judges the lines of an explanation piece by piece, as a reader gives them: the
--- verdict on the kept bytes and those to come is the verdict on all bytes. An explanation as it is printed is right.
+-- verdict on the kept bytes and those to come is the verdict on all bytes. An explanation as it is printed has the
+-- verdict Right.
 use Rattle.std.proofs.Common.{IsErrAnd, ◌≡◌, ◌≢◌, ◌<◌, ◌^◌, ◌++◌, ◌∷◌, ◌∙◌, ℕ, List, [], Option, Some, sym, ap, refl}
 use Rattle.std.proofs.Common.{arith, ◌+◌, inl, inr, length, append_assoc, length-append, None, subst, append-nil, codes}
 use Rattle.std.proofs.Common.{Ok, Err, Result}

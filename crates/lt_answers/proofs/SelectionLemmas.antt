@@ -1,4 +1,5 @@
--- Lemmas on which lines are selected: with one line more, and the law that only one list of lines is.
+-- Which lines are selected: with one line more, selected or not, the selected lines are those before and perhaps this
+-- one; and of the same lines only one list is selected, which is the law `selection_is_determined`.
 use Rattle.std.proofs.Common.{◌≡◌, ◌++◌, ◌∷◌, ◌∙◌, inl, inr, ℕ, List, [], ap, refl, sym}
 use Rattle.lt_registry.specs.Parts.{EntryParts}
 use Rattle.lt_answers.specs.Laws.{SelectionIsDetermined}

@@ -1,5 +1,5 @@
--- Lemmas for `serve_line`: the lines that are kept, since they are tags, with one line more, and that the line of the
--- best tag is the one that is served.
+-- Lemmas for `serve_line`: with one line more, the lines that are kept are still those that are tags; and the line of
+-- the best tag is the one that is served.
 use Rattle.std.proofs.Common.{◌≡◌, ◌<◌, ◌≤◌, ◌++◌, ◌∷◌, ◌∙◌, inl, inr, ℕ, Bool, true, false, List, [], Option, Some}
 use Rattle.std.proofs.Common.{None, Vec, length, take, sym, ap, subst, arith}
 use Rattle.std.proofs.Common.{length-take-le, option_map, take_all}

@@ -63,8 +63,8 @@ abbrev pub TakesTag : List EntryParts → (kept : List ℕ) → (old new : List 
 TakesTag R kept old new tags tags' = (lines : List (List ℕ)) (line : List ℕ) → kept ≡ take longest_kept line
     → AreTagLines R lines (texts_of old) tags → AreTagLines R (lines ++ line ∷ []) (texts_of new) tags'
 
--- by whatever entries `R`, if `kept` are the lines that are tags among some lines, and `tags` their subtags, then
--- `found` is what the preferences serve among these lines
+-- if, by any entries `R`, `kept` are the tags among some lines, and `tags` their subtags, then `found` is what the
+-- preferences serve among these lines
 abbrev pub ServesOf : List Preference → (kept : List (Vec ℕ Global)) → (tags : List (List (List ℕ)))
     → Option (Vec ℕ Global) → Type 0
 ServesOf preferences kept tags found = (R : List EntryParts) (lines : List (List ℕ))

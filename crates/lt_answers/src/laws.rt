@@ -18,7 +18,7 @@ pub fn selection_is_determined()
 pub fn lines_have_one_verdict()
     ensures { (R : List EntryParts) → HaveOneVerdict R }
 {
-    // Lines name the steps of a trace, and by this law a list of steps leads from a tag to one end at most.
+    // Lines name the steps of a trace, and by this law a list of steps leads from a tag to at most one end.
     traces_have_one_end();
 }
 

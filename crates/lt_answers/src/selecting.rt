@@ -72,7 +72,8 @@ impl<'a, L: Lookup> Lines for Selecting<'a, L> {
 /// - `Utf16`, if the bytes begin with a byte order mark of UTF-16: nothing has been written.
 /// - `Read`, if a read fails: what is owed for each line whose line feed was read has been written.
 /// - `TooManyTurns`, if all 10,000,000 reads were made and the last gave bytes: what is owed for these lines has been written.
-/// - `Write`, if a write fails or takes none of some bytes, and `OutOfMemory`: a front of what is owed was written.
+/// - `Write`, if a write fails or takes none of some bytes, and `OutOfMemory`, if memory runs out: the first bytes of
+///   what is owed have been written, perhaps none.
 pub fn select_lines<L: Lookup, R: Read, W: Write>(
     alloc: Global,
     checked: &Checked<L>,

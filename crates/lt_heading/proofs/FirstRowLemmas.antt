@@ -1,5 +1,6 @@
--- Lemmas for the functions of `FirstRow`, which takes the first row of a text that comes in pieces. What appending to
--- the text gives is what taking a piece, or the end of the bytes, gives, whether the byte order mark is known or not.
+-- Lemmas for the functions of `FirstRow`, which takes the first row of a text that comes in pieces. They lead from what
+-- `take_text` does to the text after the byte order mark to what a piece, or the end of the bytes, does, whether the
+-- mark is known before or not.
 use Rattle.std.proofs.Common.{◌≡◌, ◌++◌, ◌∙◌, ◌⊎◌, inl, inr, ℕ, List, [], Bool, Option, Some, None, Result, Ok, Err}
 use Rattle.std.proofs.Common.{true, false, length, take, sym, ap, refl, subst, append_assoc, append-nil}
 use Rattle.std.proofs.Math.Seq.{take-append_seam}

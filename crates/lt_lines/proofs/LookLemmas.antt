@@ -1,5 +1,6 @@
--- Lemmas for `line_looks`, where a row is looked at before it is answered: a look at the row without the carriage
--- return that may end its line tells whether the line ends within quotes, and what a piece lacks its lines lack.
+-- Lemmas for `line_looks`, where a row is looked at before it is answered. A look at the row without the carriage
+-- return that may end its line tells whether the line ends within quotes. If a piece lacks carriage returns or quotes,
+-- its lines do.
 use Rattle.std.proofs.Common.{refl, ◌≡◌, ◌≢◌, ◌≤◌, ◌<◌, ◌+◌, ◌-◌, ◌&&◌, ◌++◌, [], ◌∷◌, ◌∙◌, ℕ, Bool, true, false, List}
 use Rattle.std.proofs.Common.{Option, Some, None, MatchOption, inl, inr, length, sym, ap, arith, subst, take, drop}
 use Rattle.std.proofs.Common.{if◌then◌else◌, append_assoc, length-append}

@@ -62,7 +62,7 @@ splits_some forms.Tag bytes = ([], bytes, (refl, refl))
 splits_some (forms.Row row) bytes = split_of bytes
 splits_some (forms.Csv row delimiter) bytes = split_of bytes
 
--- nothing written is a front of what is owed for any bytes
+-- if nothing was written, this is a front of what is owed, whatever the bytes are
 pub begun_none : (T : Terms) (bytes : List ℕ) → IsBegunText T bytes []
 begun_none T bytes =
     let s = splits_some T.form bytes in

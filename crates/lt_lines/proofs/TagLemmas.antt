@@ -1,5 +1,5 @@
--- Lemmas for `run_lines`: a run of `run_tallied` over lines of the form `Tag`, without codes, is a run over tags, as
--- TagLines says it in fewer words.
+-- Lemmas for `run_lines`: a run of `run_tallied` over lines of the form `Tag`, without codes, is a run over tags, which
+-- TagLines defines without rows, records and tallies.
 use Rattle.std.proofs.Common.{◌≡◌, ◌+◌, ◌++◌, ◌∷◌, ◌∙◌, ◌<◌, ◌==◌, cond, inl, inr, ℕ, zero, suc, List, [], Bool, true}
 use Rattle.std.proofs.Common.{false, Option, Result, Ok, Err, length, map, sym, ap, refl, subst, take, drop}
 use Rattle.std.specs.List.{AllByRecursion, before_first, concat, count_by, position_or_len}

@@ -171,8 +171,8 @@ taken_write T bytes out part old new t same wrote = record {
   recent = rw same.recent t.recent;
 }
 
--- what was written, `wrote`, ends with a front of the waiting answers, `part`; so it is a front of what is owed for all
--- bytes, `all`, whichever follow those that were taken
+-- if what was written, `wrote`, ends with a front of the waiting answers, `part`, it is a front of what is owed for all
+-- bytes, `all`, whatever bytes, `more`, follow those that were taken
 pub begun_front : (T : Terms) (bytes out part more all wrote : List ℕ) (state : Answering) → IsTaken T bytes out state
     → IsFrontOf part state.owed.items
     → all ≡ bytes ++ more → wrote ≡ out ++ part → IsBegun T all wrote
@@ -187,7 +187,8 @@ begun_front T bytes out part more all wrote state t front all_is wrote_is = reco
       ∙ ap (λ (l : List ℕ). l ++ front.0) (sym wrote_is);
 }
 
--- what was written, `out`, is a front of what is owed for all bytes, `all`, whichever follow those that were taken
+-- what was written, `out`, is a front of what is owed for all bytes, `all`, whatever bytes, `more`, follow those that
+-- were taken
 pub begun_nothing : (T : Terms) (bytes out more all : List ℕ) (state : Answering) → IsTaken T bytes out state
     → all ≡ bytes ++ more → IsBegun T all out
 begun_nothing T bytes out more all state t all_is = begun_front T bytes out [] more all out state t

@@ -355,7 +355,8 @@ pub record IsBegun (T : Terms) (bytes written : List ℕ) : Type 0 where
 
 -- ---- a byte order mark
 
--- a byte order mark is looked for before rows and records; before tags none is, since each line is answered as it is
+-- a byte order mark is looked for before rows and records, and not before tags, since each of these lines is answered
+-- as it is
 abbrev pub MayHaveMark : LineForm → Type 0
 MayHaveMark forms.Tag = ⊥
 MayHaveMark (forms.Row row) = Unit {0}

@@ -1,6 +1,5 @@
 -- Lemmas for the functions of `rows` that find a field. The rest of a row is what is left of it behind the fields that
--- are skipped. It is proved where the first field of a rest ends, and which places the field after the skipped ones
--- has.
+-- are skipped. The lemmas say where the first field of a rest ends, and from where to where this field goes in the row.
 use Rattle.std.proofs.Common.{refl, ◌≡◌, ◌≢◌, ◌≤◌, ◌<◌, ◌+◌, ◌-◌, ◌↔◌, ◌++◌, [], ◌∷◌, ◌∙◌, ℕ, zero, suc, Bool, true}
 use Rattle.std.proofs.Common.{false, IsTrue, List, Option, Some, None, inl, inr, length, sym, ap, arith, subst, take}
 use Rattle.std.proofs.Common.{drop, get_or, ne_eqb, append_assoc, append-nil, length-append, take-append-drop}
@@ -179,8 +178,8 @@ module _ (d : ℕ) (text : List ℕ) (count : ℕ) (some : 0 < count) (le : coun
 
 -- ---- fields that are skipped
 
--- what is left of a row behind `at`, as slices of the text whose first `count` bytes are the row, is the row without
--- its first `at` bytes
+-- the rest of a row behind the place `at`, as slices of the text whose first `count` bytes are the row, is the row
+-- without its first `at` bytes
 pub left_is : (text : List ℕ) (count at : ℕ) → at ≤ count → take (count - at) (take (length text - at) (drop at text))
     ≡ drop at (take count text)
 left_is text count at le = ap (take (count - at)) (take_rest text at) ∙ sym (drop-take at (count - at) text)

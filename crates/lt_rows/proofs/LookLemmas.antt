@@ -1,4 +1,5 @@
--- Lemmas for `look_at`, which finds in one look whether a row ends within quotes, and where the text of a field is.
+-- Lemmas for `look_at`, which finds in one look whether a row ends within quotes, and where the text of a field is:
+-- what it finds is true of the row.
 use Rattle.std.proofs.Common.{refl, ◌≡◌, ◌≢◌, ◌≤◌, ◌+◌, ◌-◌, ◌++◌, [], ◌∷◌, ◌∙◌, ℕ, false, List, length, sym, ap, arith}
 use Rattle.std.proofs.Common.{subst, take, drop, append_assoc, length-append, take-append-drop}
 use Rattle.std.proofs.Math.Seq.{take-append_seam, drop-append_seam}

@@ -150,7 +150,7 @@ fn is_open(separator: Separator, lacks: Lacks, text: &[u8], count: usize, start:
 }
 
 /// Where the text of a field is: between its quotes, if it has them. The field goes from `start` to `end` of a row,
-/// which must be places in it, in this order. The clause holds whichever field of the row that is (`before`).
+/// which must be places in it, in this order. The clause holds for the field after any number of others (`before`).
 #[inline(always)]
 fn text_at(separator: Separator, row: &[u8], start: usize, end: usize) -> TextAt
     requires { (start ≤ end) × (end ≤ length row.now) }

@@ -1,6 +1,6 @@
 -- Lemmas for the steps of a run over lines that come in pieces, as `Lined` makes them. If the state was right for the
 -- bytes that were read so far (`IsDuring`), it is right after each step: a part is kept, a line is answered, answers
--- are written, memory runs out, a write fails, or the bytes end.
+-- are written, or the bytes end. If memory runs out or a write fails, what was written is a front of the answers.
 use Rattle.std.proofs.Common.{◌≡◌, ◌≢◌, ◌≤◌, ◌<◌, ◌-◌, ◌++◌, ◌∷◌, ◌∙◌, inl, inr, ℕ, List, [], Option, Ok, Err, length}
 use Rattle.std.proofs.Common.{take, sym, ap, refl, subst, arith, append_assoc, append-nil, length-append}
 use Rattle.std.proofs.KnownBytes.{Appends-nil, Appends-trans}

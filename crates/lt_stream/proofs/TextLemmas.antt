@@ -1,5 +1,6 @@
 -- Lemmas for `Text::take_piece` and `Text::finish`, by whether the first bytes of the text wait, since they may be a
--- part of a byte order mark, or the text is past its mark. A piece or the end of the text is taken as one of its lines.
+-- part of a byte order mark, or the text is past its mark. What a piece, or the end, does to the lines after the mark
+-- is what it does to the text.
 use Rattle.std.proofs.Common.{◌≡◌, ◌≤◌, ◌<◌, ◌+◌, ◌^◌, ◌++◌, ◌∙◌, inl, inr, ℕ, List, [], true, false, Option, Some}
 use Rattle.std.proofs.Common.{None, Result, Ok, Err, length, sym, ap, refl, subst, arith, append_assoc, append-nil}
 use Rattle.std.proofs.Common.{length-append}
