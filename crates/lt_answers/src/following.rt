@@ -177,8 +177,8 @@ impl<'a, L: Lookup> Pieces<()> for Verifying<'a, L> {
     /// At the end the verdict is that on all bytes, or memory runs out.
     ghost finished = { λ first _ _ read _ result. spec.JudgesAll (L.listed first.table.now) first.following read result };
 
-    /// Judges the lines that the piece ends and the front of the line after those; the first that settles the verdict ends the
-    /// run.
+    /// Judges the lines that the piece ends and the front of the line after those. The first that settles the verdict
+    /// ends the run; if none does, it gives None. Refused where memory runs out.
     fn take_piece(
         &mut self,
         alloc: Global,

@@ -95,8 +95,8 @@ fn dots_after(name: &[u8]) -> &'static str
     if name.len() > MOST_SHOWN { ".." } else { "" }
 }
 
-/// Appends a space and a name between quotes, with escapes for what can't be printed as it is. Of a long name its front
-/// is appended, and two dots after the quotes.
+/// Appends to `shown` a space and a name between quotes, with escapes for what can't be printed as it is. Of a name of
+/// more than 64 bytes only the first 64 are appended, with two dots after the quotes.
 pub(crate) fn append_shown(shown: &mut String, alloc: Global, name: &[u8]) -> Result<(), AllocError>
     ensures { OnOk result (string_bytes shown.new ≡ string_bytes shown.old ++ shown_name name.now) }
 {

@@ -251,9 +251,9 @@ fn append_row<L: Lookup>(
     }
 }
 
-/// Appends the answer to a heading, with the names of the fields that are added, `langtag` (if rows are kept) and
-/// `langtag_fault`, and tells whether it is refused. It is, with `BadReturn`, if a carriage return is in it outside of
-/// quotes.
+/// Appends the answer to `line`, a heading: the heading, and the names of the fields that are added, `langtag` (only if
+/// rows are kept) and `langtag_fault`. Tells whether the heading is refused. It is, with `BadReturn`, if a carriage
+/// return is in it outside of quotes.
 #[inline(never)]
 fn append_heading(
     lines: &mut Vec<u8>,

@@ -179,8 +179,8 @@ fn append_found<L: Lookup>(
 
 /// Appends the canonical text of a field and gives None, or gives why it is refused. The field is the first `count`
 /// bytes of `rest` (which must have so many), read with the basis's table of codes if there is one; what follows them
-/// changes no answer, but lets 32 bytes be looked at together. If the answers in `recent` are right, so is this one,
-/// and they stay right.
+/// changes no answer, but lets 32 bytes be looked at together. If the answers in `recent` are right for rows of the
+/// form `row`, which only the clauses use, so is this one, and they stay right.
 #[inline(always)]
 pub(crate) fn append_field<L: Lookup>(
     lines: &mut Vec<u8>,
@@ -207,7 +207,8 @@ pub(crate) fn append_field<L: Lookup>(
 
 /// Appends the canonical text of a field, the first `count` bytes of `rest` (which must have so many) read with the
 /// codes of a table, and gives None, or gives why it is refused. What follows in `rest` changes no answer, but lets 32
-/// bytes be looked at together. If the answers in `recent` are right, so is this one, and they stay right.
+/// bytes be looked at together. If the answers in `recent` are right for rows of the form `row`, which only the clauses
+/// use, so is this one, and they stay right.
 #[inline(never)]
 fn append_replaced_field<L: Lookup>(
     lines: &mut Vec<u8>,
@@ -236,7 +237,8 @@ fn append_replaced_field<L: Lookup>(
 /// Appends the canonical text of a field, the first `count` bytes of `rest` (which must have so many), and gives None,
 /// or gives why it is refused. A field whose subtags stay as they are is answered at once. Another canonical text that
 /// was found lately is not worked out again: if `rest` has at least 32 bytes, it is looked for without a copy. If the
-/// answers in `recent` are right, so is this one, and they stay right.
+/// answers in `recent` are right for rows of the form `row`, which only the clauses use, so is this one, and they stay
+/// right.
 #[inline(always)]
 fn append_read_field<L: Lookup>(
     lines: &mut Vec<u8>,
@@ -261,8 +263,9 @@ fn append_read_field<L: Lookup>(
 
 /// Appends the canonical text of a field, the first `count` bytes of `rest` (which must have so many), and gives None,
 /// or gives why it is refused. A canonical text that was found lately is taken; any other is worked out and put with
-/// those. What follows in `rest` changes no answer, but lets 32 bytes be looked at together. Not inlined, so that the
-/// way of a field that stays is short. If the answers in `recent` are right, so is this one, and they stay right.
+/// those. What follows in `rest` changes no answer, but lets 32 bytes be looked at together. If the answers in `recent`
+/// are right for rows of the form `row`, which only the clauses use, so is this one, and they stay right. It is not
+/// inlined, so that the code of its caller, which a field that stays as it is takes, is short.
 #[inline(never)]
 fn append_found_field<L: Lookup>(
     lines: &mut Vec<u8>,

@@ -64,7 +64,7 @@ impl<'a, L: Lookup, W: Write> Pieces<Device<W>> for Reading<'a, L> {
 
     /// Answers the lines that the piece ends, and writes the answers. Refused with `Utf16` at a byte order mark of
     /// UTF-16, with `BadTsv` or `BadCsv` at a row or a record that is too long, and where memory runs out or a write
-    /// fails. Only a refusal ends the run here.
+    /// fails. Else it gives None, since only a refusal ends the run here.
     fn take_piece(
         &mut self,
         alloc: Global,

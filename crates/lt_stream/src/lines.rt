@@ -146,8 +146,8 @@ impl<A: Lines, W: Write> Pieces<Device<W>> for Lined<A> {
     /// At the end all lines are answered and all answers written, or a fault ended the run as above.
     ghost finished = { λ first. spec.Finishes (A.answered first.answers) W.contents };
 
-    /// Answers the lines that the piece ends, and writes the answers. It never ends the run but by a fault: a failed
-    /// write, or lack of memory.
+    /// Answers the lines that the piece ends, and writes the answers. It gives None, or the fault that ends the run: a
+    /// failed write, or lack of memory.
     fn take_piece(
         &mut self,
         alloc: Global,
