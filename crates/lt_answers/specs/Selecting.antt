@@ -10,7 +10,7 @@ use Rattle.lt_stream.specs.declared.faults.ToolFault.{ToolFault}
 use Rattle.lt_stream.specs.declared.faults.ToolFault.TheVariants as faults
 use Rattle.lt_answers.specs.Selection.{IsBegun, IsOwed, IsOwedToLastFeed, Selection}
 
--- the reader was read to its end, and all lines of the text that are selected were written
+-- the reader was read to its end, and all lines of the text that are selected, `count` of them, were written
 pub record IsDone {I : Type 0} (P : Selection) (remaining : I → Option (List ℕ)) (input' : Device I)
     (text written : List ℕ) (count : ℕ) : Type 0 where
   pub end : IsAtEnd (remaining (inner_of input'))

@@ -50,7 +50,8 @@ ServesAmong R preferences lines (Some line) = ServesLine R preferences lines lin
 abbrev pub texts_of : List (Vec ℕ Global) → List (List ℕ)
 texts_of lines = map (λ (line : Vec ℕ Global). line.items) lines
 
--- a line was put after others, and the subtags `list` after theirs
+-- a line was put after others, `old`, which gives `new`, and its subtags, `list`, after theirs, `tags`, which gives
+-- `tags'`
 pub record PutsLine (line : List ℕ) (list : List (List ℕ)) (old new : List (Vec ℕ Global))
     (tags tags' : List (List (List ℕ))) : Type 0 where
   pub lines : texts_of new ≡ texts_of old ++ line ∷ []

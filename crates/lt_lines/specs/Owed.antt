@@ -157,7 +157,7 @@ pub record RefusesRow (kept : Bool) (S : Separator) (G : Ground) (before : ℕ) 
   pub is_told : IsTold refusal told
   pub line_is : bytes ≡ refused_line kept S line told
 
--- the answer to a row of no more than `before` fields: the last field says `NoColumn`
+-- the answer to a row of no more than `before` fields: the last field says `NoColumn`; `kept` is whether rows are kept
 pub record LacksField (kept : Bool) (S : Separator) (before : ℕ) (line bytes : List ℕ) : Type 0 where
   pub fewer : HasFewer S before (content_of line)
   pub line_is : bytes ≡ refused_line kept S line (codes "NoColumn")
