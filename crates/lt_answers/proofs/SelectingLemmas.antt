@@ -61,7 +61,7 @@ is_done (Err f) = false
 pub never : {X : Type 0} (r : Result X ToolFault) (f : ToolFault) → is_done r ≡ true → r ≡ Err f → ⊥
 never r f done is = let bad : true ≡ false = sym done ∙ ap is_done is in cc
 
--- the fault of a run
+-- the fault of a run, or `default` if it ended by none
 abbrev fault_of : {X : Type 0} → ToolFault → Result X ToolFault → ToolFault
 fault_of default (Ok x) = default
 fault_of default (Err f) = f

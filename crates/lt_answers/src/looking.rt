@@ -30,7 +30,8 @@ struct LookingUp<'a, L: Lookup> {
 impl<'a, L: Lookup> Lines for LookingUp<'a, L> {
     ghost longest = { longest_kept };
 
-    /// The table and the ranges are those of the beginning, nothing is written, and `closest` is that of the lines.
+    /// The table and the ranges are those of the beginning, nothing is written, and `closest` is the closest of the
+    /// lines.
     ghost answered = { λ first here lines bytes. (here.checked.now ≡ first.checked.now) × (here.ranges.now ≡ first.ranges.now)
         × (bytes ≡ []) × Holds (L.listed here.checked.now) here.ranges.now lines here.closest };
 

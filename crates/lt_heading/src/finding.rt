@@ -95,8 +95,8 @@ fn heading_in(text: &[u8], end: usize) -> Option<&[u8]>
 
 /// Finds the only column that has a name in the heading of rows, which is the first of them, after a byte order mark of
 /// UTF-8. The texts of its fields are the names. In a quoted field each doubled quote is one quote, and a carriage return
-/// that ends the heading is no part of the last name. Names are equal where all bytes are. If there is no row, no column has
-/// a name. It reads until the heading is whole, and gives all bytes that it read.
+/// that ends the heading is no part of the last name. Two names are equal if all their bytes are. If there is no row,
+/// no column has a name. It reads until the heading is whole, and gives all bytes that it read.
 ///
 /// - `Name`, if no column has the name, or more than one: the text is one line that says so and has the first 64 names, each
 ///   cut to 64 bytes.

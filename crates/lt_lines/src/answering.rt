@@ -320,9 +320,9 @@ impl Answering {
     /// Takes the first `count` bytes of `text` (which must have so many) and the line feed after them: answers the row
     /// or the record that they end, or keeps them if the line feed is within quotes. What follows in `text` changes no
     /// answer, but lets up to 64 bytes be looked at together. `lacks` must be true of the `count` bytes: it is what
-    /// they are known to lack. The counts must have room for one more line, below 2^64. By `taken`, if these have no
-    /// line feed (10) and don't make the row too long, a state that was right for what was read and written so far is
-    /// right with them too. By `counted` one line feed was counted, and at most one line as answered.
+    /// they are known to lack. The counts must have room for one more line, below 2^64. By `taken`, if these bytes have
+    /// no line feed (10) and don't make the row too long, a state that was right for what was read and written so far
+    /// is right with them too. By `counted` one line feed was counted, and at most one line as answered.
     #[inline(never)]
     fn end_row<L: Lookup>(
         &mut self,
@@ -351,9 +351,9 @@ impl Answering {
     /// Takes the first `count` bytes of `text` (which must have so many) and the line feed after them: answers the line
     /// that they end, or keeps them if the line feed is within the quotes of a record. What follows in `text` changes
     /// no answer, but lets up to 64 bytes be looked at together. `lacks` must be true of the `count` bytes: it is what
-    /// they are known to lack. The counts must have room for one more line, below 2^64. By `taken`, if these have no
-    /// line feed (10) and don't make the line too long, a state that was right for what was read and written so far is
-    /// right with them too. By `counted` one line feed was counted, and at most one line as answered.
+    /// they are known to lack. The counts must have room for one more line, below 2^64. By `taken`, if these bytes have
+    /// no line feed (10) and don't make the line too long, a state that was right for what was read and written so far
+    /// is right with them too. By `counted` one line feed was counted, and at most one line as answered.
     #[inline(always)]
     fn end_line<L: Lookup>(
         &mut self,
