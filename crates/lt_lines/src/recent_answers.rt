@@ -102,9 +102,9 @@ fn append_replaced<L: Lookup>(
 }
 
 /// Appends the answer to a tag, the first `count` bytes of `text` (which must have so many), and tells whether it was
-/// refused. A text of the usual form (a language, perhaps with a script and a region) whose subtags stay as they are is
-/// answered at once. Another answer that was given lately is not worked out again: if `text` has at least 32 bytes, it
-/// is looked for without a copy. If the answers in `recent` are right, so is this one, and they stay right.
+/// refused. A text of the usual form (a language, perhaps a script, and perhaps a region) whose subtags stay as they
+/// are is answered at once. Another answer that was given lately is not worked out again: if `text` has at least 32
+/// bytes, it is looked for without a copy. If the answers in `recent` are right, so is this one, and they stay right.
 #[inline(always)]
 fn append_read<L: Lookup>(
     lines: &mut Vec<u8>,
@@ -235,10 +235,10 @@ fn append_replaced_field<L: Lookup>(
 }
 
 /// Appends the canonical text of a field, the first `count` bytes of `rest` (which must have so many), and gives None,
-/// or gives why it is refused. A field of the usual form (a language, perhaps with a script and a region) whose subtags
-/// stay as they are is answered at once. Another canonical text that was found lately is not worked out again: if
-/// `rest` has at least 32 bytes, it is looked for without a copy. If the answers in `recent` are right for rows of the
-/// form `row`, which only the clauses use, so is this one, and they stay right.
+/// or gives why it is refused. A field of the usual form (a language, perhaps a script, and perhaps a region) whose
+/// subtags stay as they are is answered at once. Another canonical text that was found lately is not worked out again:
+/// if `rest` has at least 32 bytes, it is looked for without a copy. If the answers in `recent` are right for rows of
+/// the form `row`, which only the clauses use, so is this one, and they stay right.
 #[inline(always)]
 fn append_read_field<L: Lookup>(
     lines: &mut Vec<u8>,
