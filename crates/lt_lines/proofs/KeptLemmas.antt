@@ -1,5 +1,5 @@
--- Lemmas for `answer_line`, which counts a refused line by what is kept of it. Of a long tag only a front is kept,
--- which is enough: the tallies show an even shorter front of it.
+-- Lemmas for `answer_line`, which counts a refused line by what is kept of it. Of a long tag only a front, its first
+-- 1,027 bytes, is kept, which is enough: the tallies show only its first 64.
 use Rattle.std.proofs.Common.{◌≡◌, ◌<◌, ◌-◌, ◌++◌, ◌∷◌, ◌∙◌, inl, inr, ℕ, List, [], Bool, true, false, length, take}
 use Rattle.std.proofs.Common.{sym, ap, refl, subst, arith, if◌then◌else◌, take_all, length-take-le}
 use Rattle.std.proofs.lemmas.Bool.Decides.{leb_tells}

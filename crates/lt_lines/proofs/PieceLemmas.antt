@@ -155,7 +155,7 @@ module _ {W : Type 0} (T : Terms) (contents : W → Option (List ℕ)) (piece re
   }
 
 -- if all waiting answers are written after the last turn, the piece is taken; if the write fails, the piece ends by
--- that
+-- this fault
 pub turn_last : {W : Type 0} (T : Terms) (contents : W → Option (List ℕ)) (piece : List ℕ) (old mid new : Answering)
     (before between last : Device W) (r : Result (Unit {0}) ToolFault)
     → PieceTurn T contents piece [] old mid before between → WritesOwed contents mid new between last r

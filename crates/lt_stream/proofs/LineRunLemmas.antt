@@ -16,8 +16,8 @@ use Rattle.lt_stream.specs.declared.faults.ToolFault.TheVariants as faults
 use Rattle.lt_stream.specs.declared.lines.Lined.{Lined}
 use Rattle.lt_stream.proofs.LinedLemmas.{during_fails, during_feed, during_lacks, during_part, during_written, few_lines}
 
--- a run that has read fewer than 2 to the 64 bytes with one more may answer one line more, since it has answered no
--- more lines than it has read bytes
+-- if the bytes that a run has read, and one more, are fewer than 2 to the 64, it may answer one line more, since it has
+-- answered no more lines than it has read bytes
 pub has_line : {A W : Type 0} (Q : A → Answered A) (first : A) (longest : ℕ) (contents : W
     → Option (List ℕ)) (start now : Device W) (bytes : List ℕ) (state : Lined A)
     → IsDuring (Q first) longest contents start now bytes state
@@ -188,7 +188,7 @@ module _ {A I W : Type 0} (Q : Answered A) (remaining : I → Option (List ℕ))
     pub write_rises : failures_of output < failures_of output' → r ≡ Err faults.Write
 
   module _ (r : Result (Unit {0}) ToolFault) where
-    -- this is true of a run that ended as a write failed, or memory ran out when a line was answered
+    -- this is true of a run that ended since a write failed, or memory ran out when a line was answered
     ended_cut : (f : ToolFault) → r ≡ Err f → failures_of input' ≡ failures_of input → IsCutOff Q contents output output' text f → Ended r
     ended_cut f is same c = elim c.stop [
       | inl wrote ↦
