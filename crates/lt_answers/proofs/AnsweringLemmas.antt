@@ -1,4 +1,6 @@
--- Lines that are answered by objects.
+-- Lemmas for `write_objects`: the objects for some lines and for one more are the objects for all. The contract of
+-- `run_lines` is on the whole state that answered the lines. From it follows the contract of `write_objects`, which is
+-- only on whether a line was refused.
 use Rattle.std.proofs.Common.{◌≡◌, ℕ, Bool, true, false, List, [], ◌∷◌, ◌++◌, refl, ◌∙◌, ap, append_assoc}
 use Rattle.std.specs.Prelude.{◌||◌, Option, Result, Ok, Err}
 use Rattle.lt_jar.specs.Lines.{content_of, lines_of}
@@ -10,8 +12,8 @@ use Rattle.lt_stream.specs.declared.faults.ToolFault.TheVariants as faults
 use Rattle.lt_answers.specs.Objects.{AppendsObject, IsObjectFor}
 use Rattle.lt_answers.specs.Answering.{AppendsLine, AreObjects, text_of}
 
--- the object for a line is appended to `old`, which gives `mid`, and then a line feed (10), which gives `new`; `front`
--- is the first bytes of the line, as many as are looked at
+-- a line is answered once the object for it is appended to `old`, which gives `mid`, and then a line feed (10), which
+-- gives `new`; `front` is the first bytes of the line, as many as are looked at
 pub line_appended : (R : List EntryParts) (front old mid new : List ℕ) (refused : Bool)
     → AppendsObject R (content_of front) old mid refused → new ≡ mid ++ 10 ∷ [] → AppendsLine R front old new refused
 line_appended R front old mid new refused a h = record {
@@ -34,8 +36,8 @@ or_assoc false b c = refl
 pub none_answered : (R : List EntryParts) → AreObjects R [] [] false
 none_answered R = (refl, refl)
 
--- One line more, after `lines`, which `bytes` answer: its object and a line feed (10) come behind `bytes`. `before` is
--- whether one of `lines` is refused, and `refused` whether the new one is.
+-- If `bytes` answer `lines`, then they and the object for one line more, with a line feed (10), answer the lines and
+-- this one. `before` is whether one of `lines` is refused, and `refused` whether the new one is.
 pub objects_more : (R : List EntryParts) (lines : List (List ℕ)) (line bytes object : List ℕ) (before refused : Bool)
     → AreObjects R lines bytes before → IsObjectFor R (text_of line) object refused
     → AreObjects R (lines ++ line ∷ []) (bytes ++ (object ++ 10 ∷ [])) (before || refused)

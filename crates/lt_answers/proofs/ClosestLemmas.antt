@@ -1,4 +1,5 @@
--- The line that lookup finds among those so far, and one more.
+-- Lemmas for `take_line` of `closest`: which line is the closest, that is, the one that lookup finds, among the lines
+-- so far and one more. At the end the closest of all lines is what lookup finds.
 use Rattle.std.proofs.Common.{◌≡◌, ◌<◌, ◌≤◌, ◌+◌, ◌++◌, ◌∷◌, ◌∙◌, ℕ, zero, suc, List, [], Option, Some, None, inl, inr}
 use Rattle.std.proofs.Common.{length, take, drop, get_or, sym, ap, refl, subst, arith, length-append, length-take-le}
 use Rattle.std.proofs.Common.{take_all}
@@ -203,7 +204,7 @@ takes_closer ranges list line old new f closer counted copied = λ lines lists s
 
 -- ---- lines
 
--- the subtags of some lines, and of one more
+-- the subtags of some lines, and then those of one more, are the subtags of all these lines
 pub lines_more : (R : List EntryParts) (lines : List (List ℕ)) (lists : List (List (List ℕ))) (line : List ℕ) (list
     : List (List ℕ)) → LinesHave R lines lists → LineHas R line list
     → LinesHave R (lines ++ line ∷ []) (lists ++ list ∷ [])

@@ -1,4 +1,5 @@
--- The values of extensions, by the parts that were found.
+-- Lemmas for `extensions`: the object that is appended for an extension, by the parts that were found in it, is the
+-- value that is specified.
 use Rattle.std.proofs.Common.{◌≡◌, refl, arith, ◌≢◌}
 use Rattle.std.specs.Prelude.{Option, Some, None}
 use Rattle.std.proofs.lemmas.Bool.Decides.{nat_tests}

@@ -1,4 +1,6 @@
--- Lines that are judged piece by piece, as a reader gives them.
+-- Lemmas for `verify_lines`, which judges the lines of an explanation piece by piece, as a reader gives them: the
+-- verdict on the kept bytes and those to come is the verdict on all bytes. An explanation as it is printed has the
+-- verdict Right.
 use Rattle.std.proofs.Common.{IsErrAnd, ◌≡◌, ◌≢◌, ◌<◌, ◌^◌, ◌++◌, ◌∷◌, ◌∙◌, ℕ, List, [], Option, Some, sym, ap, refl}
 use Rattle.std.proofs.Common.{arith, ◌+◌, inl, inr, length, append_assoc, length-append, None, subst, append-nil, codes}
 use Rattle.std.proofs.Common.{Ok, Err, Result}
@@ -70,7 +72,7 @@ explanations_right R all text shown t read is =
           ∙ led.2 (last ++ 10 ∷ []) ∙ ap (λ (l : List (List ℕ)). led.0 ++ l) (lines_of-ended last [] one);
     })
 
--- a state that took no bytes is the same as before
+-- a state that is the same as before took no bytes
 pub takes_nothing : (R : List EntryParts) (state : Following) → IsProperIf R state.here → Takes R [] state state
 takes_nothing R state proper = record {
   proper = proper;
@@ -310,7 +312,7 @@ module _ {I A : Type 0} (R : List EntryParts) (t : TagForm) (first : Following) 
     read_rises = rises;
   }
 
-  -- a run that ended as memory ran out
+  -- a run that ended since memory ran out verified lines, as the contract allows
   verifies_by : (r : Result Verdict ToolFault) (p : Runs r) (f : ToolFault) → r ≡ Err f → (f ≡ faults.OutOfMemory)
       → failures_of input' ≡ failures_of input → VerifiesLines R t remaining input input' r
   verifies_by r p f is memory same = verifies r p (rw (is, memory) tt) (λ lt. absurd (omega (arith, lt, same)))
@@ -335,23 +337,23 @@ module _ {I A : Type 0} (R : List EntryParts) (t : TagForm) (first : Following) 
     | inr (inr (inr (inr s))) ↦ run_lacked (Err f) p s
   ]
     where
-      -- a failed read ended it
+      -- so did one that a failed read ended
       run_failed : (r : Result Verdict ToolFault) (p : Runs r)
           → IsStoppedByRead (λ bytes. T bytes here) input input' p.read r → VerifiesLines R t remaining input input' r
       run_failed r p s = verifies r p (rw s.fault s.failed) (λ _. s.fault)
 
-      -- all reads that it may make were made
+      -- so did one that made all reads that it may make
       run_turned : (r : Result Verdict ToolFault) (p : Runs r)
           → IsStoppedByTurns (λ bytes. T bytes here) input input' p.reads p.read r
           → VerifiesLines R t remaining input input' r
       run_turned r p s = verifies r p (rw s.fault (s.all_made, s.last_gave)) (λ lt. absurd (omega (arith, lt, s.same)))
 
-      -- there was no memory for a further piece
+      -- so did one that had no memory for a piece
       run_lacked : (r : Result Verdict ToolFault) (p : Runs r)
           → IsWithoutMemory (λ bytes. T bytes here) input input' p.read r → VerifiesLines R t remaining input input' r
       run_lacked r p s = verifies r p (rw s.fault tt) (λ lt. absurd (omega (arith, lt, s.same)))
 
--- a run that ran out of memory before the first read
+-- a run that ran out of memory before the first read verified lines, as the contract allows
 pub run_lacks : {I : Type 0} {R : List EntryParts} {t : TagForm} {remaining : I → Option (List ℕ)} {input : Device I}
     → (r : _) → IsErrAnd r (λ e. e ≡ faults.OutOfMemory) → VerifiesLines R t remaining input input r
 run_lacks r lacks = let p = err_from_is_err_and r lacks in rw (p.1, p.2) (record {
@@ -364,8 +366,8 @@ run_lacks r lacks = let p = err_from_is_err_and r lacks in rw (p.1, p.2) (record
   read_rises = λ lt. absurd (omega (arith, lt));
 })
 
--- a piece was taken by the program, or settled the verdict: `judged` is what it settled, `T` what is true while the run
--- reads, and `S` where a piece ends it
+-- what a piece did, by `judged`, the verdict that it settled or None, is what the contract of pieces asks: `T` is what
+-- is true while the run reads, and `S` what is true where a piece ends it
 pub takes_or_settles : {A : Type 0} (T : A → RunFact (Unit {0}) A) (S : A → EndFact (Unit {0}) A Verdict)
     (piece : List ℕ) (before after : Unit {0}) (old new : A) (judged : Option Verdict)
     → (judged ≡ None → (first : A) (start : Unit {0}) (read : List ℕ) → T first start before read old

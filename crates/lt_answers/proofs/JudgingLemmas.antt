@@ -1,4 +1,5 @@
--- What is judged of a line is its verdict, and nothing else is.
+-- Judging the lines of an explanation one by one (`Judges`) gives the verdict that is defined on all of them
+-- (`IsVerdict`), and lines have only one verdict. The place and the number of a step that leads on have 32 bits.
 use Rattle.std.proofs.Common.{drop, ◌≡◌, ◌≢◌, ◌<◌, ◌^◌, ◌++◌, ◌∷◌, ◌∙◌, ◌==◌, ℕ, List, [], Option, Some, Bool, true}
 use Rattle.std.proofs.Common.{sym, ap, refl, arith, map, get_or, ◌≤◌, ◌+◌, inl, inr, length, append_assoc}
 use Rattle.std.proofs.Common.{length-append, decimal, None, subst, append-nil, false, Ordering, flat_map}
@@ -108,7 +109,7 @@ judged_behind R n m t here [] lines v nth lead judged =
 judged_behind R n m t here (line ∷ before) lines v nth lead judged =
     inl (lead.0, lead.1, judged_behind R (n + 1) m lead.0 here before lines v (omega arith) lead.2 judged)
 
--- if lines stop at a line that settles a verdict, this verdict is judged of them
+-- if line number `n` settles a verdict after the lines before it, this verdict is judged of all lines
 judged_at : (R : List EntryParts) (t : TagForm) (lines : List (List ℕ)) (n : ℕ) (Holds : TagForm → List ℕ → Type 0)
     (v : Verdict) (s : StopsAt R t lines n Holds)
     → SettlesLine R n s.here s.line v → Judges R 1 (Some t) lines v

@@ -1,4 +1,5 @@
--- The words of the lines of an explanation, and the kinds of its steps.
+-- Lemmas for `labels` and `judge_front`: how the line of a step is read by its words, which kinds of step there are,
+-- and what the front of a line says of the whole line.
 use Rattle.std.proofs.Common.{take, drop, take-append-drop, ◌≡◌, ◌≢◌, ◌<◌, ◌^◌, ◌++◌, ◌∷◌, ◌∙◌, ◌==◌, ℕ, List, []}
 use Rattle.std.proofs.Common.{Option, Some, Bool, true, sym, ap, refl, arith, not, map, get_or, find, ◌≤◌, inl, inr}
 use Rattle.std.proofs.Common.{leb, length, append_assoc, length-append, bytes_eq, decimal, leb-true, subst, min, ◌-◌}

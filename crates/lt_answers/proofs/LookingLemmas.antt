@@ -1,4 +1,5 @@
--- What lookup finds: the closest of the lines that were read, at the beginning none.
+-- Lemmas for `look_up_line`: at the beginning of a run no line is the closest, and at its end the closest of the lines
+-- that were read is what lookup finds.
 use Rattle.std.proofs.Common.{◌≡◌, ℕ, List, [], Option, Some, None, refl, arith, option_map}
 use Rattle.lt_registry.specs.Parts.{EntryParts}
 use Rattle.lt_range.specs.Ranges.{RangeParts}

@@ -1,4 +1,5 @@
--- Texts and lines that ranges match.
+-- Lemmas for `is_selected`: a text is matched exactly if a range matches its subtags, and of a long line the front that
+-- is kept tells whether the line is selected.
 use Rattle.std.proofs.Common.{◌≡◌, ◌≤◌, ◌+◌, ◌-◌, ◌↔◌, inl, inr, Bool, IsTrue, true, false, ℕ, List, length, take}
 use Rattle.std.proofs.Common.{subst, arith, if◌then◌else◌, length-take-le}
 use Rattle.std.proofs.lemmas.Bool.Decides.{leb_tells}

@@ -1,4 +1,5 @@
--- Objects, by the members that were appended.
+-- Lemmas for `append_object` and its parts: the members that are appended one after another are together the object
+-- that is specified.
 use Rattle.std.proofs.Common.{◌≡◌, ◌≤◌, ℕ, Bool, true, false, List, [], ◌∷◌, ◌++◌, length, refl, sym, ◌∙◌, ap, append_assoc}
 use Rattle.std.specs.Prelude.{codes, Some, None, Ok, Err}
 use Rattle.lt_tag.specs.Parts.{TagForm}

@@ -1,4 +1,5 @@
--- What a run that searches one line did, by look-up or by preferences: it found one or none, or ended by a fault.
+-- Lemmas for `look_up_line` and `serve_line`, which search one line of a reader: a run over its text is such a search,
+-- whether it found a line or none, or ended by a fault.
 use Rattle.std.proofs.Common.{◌≡◌, ℕ, List, Bool, true, false, inl, inr, Option, Result, Ok, Err, ap, refl, sym}
 use Rattle.lt_jar.specs.declared.devices.Device.{Device}
 use Rattle.lt_stream.specs.Lines.{Answered}

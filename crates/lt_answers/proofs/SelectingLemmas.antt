@@ -1,4 +1,5 @@
--- What a run that selects lines did.
+-- Lemmas for `select_lines`: a run over a text that answers each line by itself or by nothing writes the lines that are
+-- selected, and counts them.
 use Rattle.std.proofs.Common.{◌≡◌, ◌≤◌, ◌+◌, ◌++◌, ◌∷◌, ◌∙◌, inl, inr, ℕ, List, [], Bool, true, false, Option, Result}
 use Rattle.std.proofs.Common.{Ok, Err, length, take, sym, ap, refl, subst, arith, append-nil, length-append, take_all}
 use Rattle.lt_jar.specs.Lines.{whole_lines}
@@ -60,7 +61,7 @@ is_done (Err f) = false
 pub never : {X : Type 0} (r : Result X ToolFault) (f : ToolFault) → is_done r ≡ true → r ≡ Err f → ⊥
 never r f done is = let bad : true ≡ false = sym done ∙ ap is_done is in cc
 
--- the fault of a run
+-- the fault of a run, or `default` if it ended by none
 abbrev fault_of : {X : Type 0} → ToolFault → Result X ToolFault → ToolFault
 fault_of default (Ok x) = default
 fault_of default (Err f) = f

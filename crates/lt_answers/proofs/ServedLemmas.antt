@@ -1,4 +1,5 @@
--- The lines that are tags, and the one of them that is served.
+-- Lemmas for `serve_line`: with one line more, the lines that are kept are still those that are tags; and the line of
+-- the best tag is the one that is served.
 use Rattle.std.proofs.Common.{◌≡◌, ◌<◌, ◌≤◌, ◌++◌, ◌∷◌, ◌∙◌, inl, inr, ℕ, Bool, true, false, List, [], Option, Some}
 use Rattle.std.proofs.Common.{None, Vec, length, take, sym, ap, subst, arith}
 use Rattle.std.proofs.Common.{length-take-le, option_map, take_all}
@@ -38,7 +39,7 @@ tag_tells R = record {
 
 -- `kept` is what is kept of a further line; before it `old` are the lines that are tags, and `tags` their subtags
 module _ (R : List EntryParts) (kept : List ℕ) (old : List (Vec ℕ Global)) (tags : List (List (List ℕ))) where
-  -- a further line that is a tag is put after the others
+  -- if a further line is a tag, and is put after the others, these are the lines that are tags
   pub takes_tag : (new : List (Vec ℕ Global)) (tags' : List (List (List ℕ))) (list : List (List ℕ))
       → HasSubtags R (content_of kept) list → PutsLine kept list old new tags tags' → TakesTag R kept old new tags tags'
   takes_tag new tags' list has puts = λ lines line is before.

@@ -1,4 +1,4 @@
--- The text of the source of a `t` extension.
+-- Lemmas for `text_of` of `sources`: the subtags that it appends are together the text of a source of a `t` extension.
 use Rattle.std.proofs.Common.{◌≡◌, ℕ, List, [], ◌∷◌, ◌++◌, refl, sym, ◌∙◌, ap, append-nil, append_assoc}
 use Rattle.std.specs.List.{join_with_byte}
 use Rattle.std.specs.Option.{option_to_list}

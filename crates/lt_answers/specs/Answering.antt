@@ -44,7 +44,7 @@ AnswersByObjects R remaining contents input input' output output' refused result
     remaining contents input input' output output' refused result
 
 -- the object for the text of a line and a line feed (10) were appended to `old`, which gave `new`; `front` is the first
--- bytes of the line, at most `longest_line`
+-- bytes of the line, at most `longest_line`, and `refused` is whether the text is refused
 pub record AppendsLine (R : List EntryParts) (front old new : List ℕ) (refused : Bool) : Type 0 where
   pub object : List ℕ
   pub grown : new ≡ old ++ (object ++ 10 ∷ [])

@@ -1,5 +1,5 @@
--- The line that lookup finds, of those that were read so far. A range falls back to a tag if it becomes the tag when
--- subtags at its end are cut off (RFC 4647, 3.4), and so finds it. No public contract cites this.
+-- The line that lookup finds, of those that were read so far: the closest one. A range falls back to a tag if it
+-- becomes the tag when subtags at its end are cut off (RFC 4647, 3.4), and so finds it. No public contract cites this.
 use Rattle.std.specs.Prelude.{◌≡◌, ◌<◌, ◌⊎◌, ◌++◌, ◌∷◌, ℕ, List, [], true, length, take, Option, Some, None, Result, Err}
 use Rattle.std.specs.Prelude.{slice_index_or}
 use Rattle.lt_registry.specs.Parts.{EntryParts}
@@ -43,26 +43,26 @@ abbrev pub IsCloser : Option Closest → (range count : ℕ) → Type 0
 IsCloser None range count = Unit {0}
 IsCloser (Some closest) range count = (range < closest.range) ⊎ ((range ≡ closest.range) × (closest.count < count))
 
--- this is the closest of these lines, whose tags have the subtags `lists`, or None if no range finds one
+-- this is the closest of these lines, whose tags have the subtags `lists`, with the place of the range that finds it
+-- and how many subtags its tag has; or None if no range finds a line
 abbrev pub ClosestAmong : List RangeParts → List (List ℕ) → List (List (List ℕ)) → Option Closest → Type 0
 ClosestAmong ranges lines lists None = (i : ℕ) → i < length ranges → FindsNone lists (range_at ranges i)
 ClosestAmong ranges lines lists (Some closest) = (place : ℕ) × IsClosest ranges lists closest.range closest.count place
     × (line_at lines place ≡ closest.line.items)
 
--- `closest` is the closest of these lines, or None if no range finds one
+-- `closest` is the closest of these lines by the entries R, or None if no range finds a line
 pub record Holds (R : List EntryParts) (ranges : List RangeParts) (lines : List (List ℕ))
     (closest : Option Closest) : Type 0 where
   pub lists : List (List (List ℕ))
   pub have : LinesHave R lines lists
   pub among : ClosestAmong ranges lines lists closest
 
--- the closest of any lines, `old`, becomes the closest of them and one line more, `new`; `kept` is what is kept of that
--- line
+-- if `old` is the closest of any lines, `new` is the closest of them and one further line, of which `kept` is kept
 abbrev pub TakesLine : List EntryParts → List RangeParts → (kept : List ℕ) → (old new : Option Closest) → Type 0
 TakesLine R ranges kept old new = (lines : List (List ℕ)) (line : List ℕ) → kept ≡ take longest_kept line
     → Holds R ranges lines old → Holds R ranges (lines ++ line ∷ []) new
 
--- the closest of any lines becomes the closest of them and `line`, whose tag has the subtags `list`
+-- if `old` is the closest of any lines, `new` is the closest of them and `line`, whose tag has the subtags `list`
 abbrev pub TakesSubtags : List RangeParts → (list : List (List ℕ)) → (line : List ℕ)
     → (old new : Option Closest) → Type 0
 TakesSubtags ranges list line old new =

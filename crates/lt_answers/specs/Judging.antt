@@ -1,4 +1,5 @@
--- How an explanation is judged line by line: each by the tag to which the lines before it lead.
+-- How an explanation is judged line by line: each line by the tag to which the lines before it lead. A line settles the
+-- verdict if no line after it can change that.
 use Rattle.std.specs.Prelude.{◌≡◌, ◌≢◌, ◌≤◌, ◌<◌, ◌+◌, ◌⊎◌, ℕ, List, [], ◌∷◌, ◌++◌, length, Option, Some, None}
 use Rattle.lt_tag.specs.Parts.{TagForm}
 use Rattle.lt_tag.specs.Texts.{text_of}
@@ -10,7 +11,9 @@ use Rattle.lt_answers.specs.declared.judging.Flow.TheVariants as flows
 use Rattle.lt_answers.specs.declared.verdicts.Verdict.{Verdict}
 use Rattle.lt_answers.specs.declared.verdicts.Verdict.TheVariants as verdicts
 
--- line number `n` settles the verdict, whatever follows it, if the lines before it lead to `t`
+-- Line number `n` settles the verdict `v`, whatever follows it, if the lines before it lead to `t`: it names a step
+-- that does not lead on (NoSuchStep), an end with another text (WrongEnd), a step with another text or nothing
+-- (BadStep).
 abbrev pub SettlesLine : List EntryParts → ℕ → TagForm → List ℕ → Verdict → Type 0
 SettlesLine R n t line v =
     (NamesNoStep R t line × (v ≡ verdicts.NoSuchStep n))
@@ -23,7 +26,7 @@ end_verdict n None = verdicts.Right
 end_verdict n (Some t) = verdicts.BadStep n
 
 -- `v` is the verdict on these lines, the first of which has the number `n`. The lines before them lead to the tag
--- `here`, or, if it is None, end with the line of the end.
+-- `here`, or, if that is None, they end with the line of the end.
 abbrev pub Judges : List EntryParts → ℕ → Option TagForm → List (List ℕ) → Verdict → Type 0
 Judges R n here [] v = v ≡ end_verdict n here
 Judges R n None (line ∷ lines) v = v ≡ verdicts.BadStep n
@@ -63,8 +66,8 @@ pub record IsWithinRight (R : List EntryParts) (t : TagForm) (n : ℕ) : Type 0 
   pub right : ((u : TagForm) × LeadsOn R t line u) ⊎ EndsHere t line
   pub long : n ≤ length line
 
--- `n` bytes are kept of a line: no more than a label has, or no more than a right line after `t` has; none after the
--- end
+-- `n` bytes are kept of a line: no more than a label has, or no more than some right line has after `t`; none after the
+-- line of the end (None)
 abbrev pub KeepsFew : List EntryParts → Option TagForm → ℕ → Type 0
 KeepsFew R None n = n ≡ 0
 KeepsFew R (Some t) n = (n ≤ longest_label) ⊎ IsWithinRight R t n

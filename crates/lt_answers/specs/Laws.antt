@@ -12,7 +12,7 @@ use Rattle.lt_answers.specs.declared.schemes.Scheme.{Scheme}
 use Rattle.lt_answers.specs.declared.verdicts.Verdict.{Verdict}
 use Rattle.lt_answers.specs.declared.verdicts.Verdict.TheVariants as verdicts
 
--- ranges select one list of these lines at most
+-- ranges select at most one list of these lines
 abbrev pub SelectionIsDetermined : List EntryParts → Type 0
 SelectionIsDetermined R =
     (scheme : Scheme) (ranges : List RangeParts) (lines a b : List (List ℕ))

@@ -19,7 +19,8 @@ LinesHave R [] lists = lists ≡ []
 LinesHave R (line ∷ lines) lists = (list : List (List ℕ)) × (more : List (List (List ℕ))) × LineHas R line list
     × (lists ≡ list ∷ more) × LinesHave R lines more
 
--- lookup finds this line: by the first range that finds any, the first of those that are closest to that range
+-- lookup finds this line: only the first range that finds a line counts, and this is the first of the lines that are
+-- closest to that range
 pub record FindsLine (R : List EntryParts) (ranges : List RangeParts) (lines : List (List ℕ))
     (line : List ℕ) : Type 0 where
   pub lists : List (List (List ℕ))

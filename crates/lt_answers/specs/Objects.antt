@@ -26,7 +26,7 @@ input_members false text = member (codes "input") null ∷ member (codes "bytes"
 abbrev pub Answer : Type 0
 Answer = Result (List ℕ) TextRefusal
 
--- the answer is right for the text: its canonical text, or why it has none; OutOfMemory is no answer
+-- the answer is right for the text by the entries R: its canonical text, or why it has none; OutOfMemory is no answer
 abbrev pub IsAnswerTo : List EntryParts → List ℕ → Answer → Type 0
 IsAnswerTo R text (Ok canonical) = IsCanonicalTextOf R text canonical
 IsAnswerTo R text (Err (refusals.NotATag fault)) = IsTextRefusal R text (refusals.NotATag fault)

@@ -31,9 +31,11 @@ EndsAs Finds remaining input input' reads read text (Err (faults.BadTsv line)) =
 EndsAs Finds remaining input input' reads read text (Err faults.Utf16) = IsWide read
 EndsAs Finds remaining input input' reads read text (Err faults.OutOfMemory) = Unit {0}
 
--- A run that searches one of the lines of a reader. The byte order mark of UTF-8 with which the bytes may begin is
--- passed over. The result names a failed read (`read_rises`). `remaining` gives the bytes that a reader has left, and
--- `input` and `input'` are the reader before and after the run.
+-- A run that searches one of the lines of a reader; `Finds` says which one is to be found. It read the bytes `read` in
+-- `reads` reads, at most 10,000,000. A byte order mark of UTF-8 before the text is passed over, and bytes that begin
+-- with one of UTF-16 are refused (`narrow`). If the count of failures of the reader rises, the result is Read
+-- (`read_rises`). `remaining` gives the bytes that a reader has left, and `input` and `input'` are the reader before
+-- and after the run.
 pub record SearchesLines {I : Type 0} (Finds : Finding) (remaining : I → Option (List ℕ))
     (input input' : Device I) (result : Result (Option (Vec ℕ Global)) ToolFault) : Type 0 where
   pub read : List ℕ

@@ -10,7 +10,7 @@ use Rattle.lt_stream.specs.declared.faults.ToolFault.{ToolFault}
 use Rattle.lt_stream.specs.declared.faults.ToolFault.TheVariants as faults
 use Rattle.lt_answers.specs.Selection.{IsBegun, IsOwed, IsOwedToLastFeed, Selection}
 
--- the reader was read to its end, and all lines of the text that are selected were written
+-- the reader was read to its end, and all lines of the text that are selected, `count` of them, were written
 pub record IsDone {I : Type 0} (P : Selection) (remaining : I → Option (List ℕ)) (input' : Device I)
     (text written : List ℕ) (count : ℕ) : Type 0 where
   pub end : IsAtEnd (remaining (inner_of input'))
@@ -21,8 +21,8 @@ pub record IsStoppedByRead {I : Type 0} (P : Selection) (input input' : Device I
   pub failed : HasFailed input input'
   pub owed : IsOwedToLastFeed P text written
 
--- all reads that a run may make were made, each gave a byte at least, also the last; the lines of the text that are
--- selected up to the last line feed were written
+-- all reads that a run may make were made, they gave at least as many bytes, the last gave some; the lines of the text
+-- that are selected up to the last line feed were written
 pub record IsStoppedByTurns {I : Type 0} (P : Selection) (input' : Device I) (reads : ℕ)
     (read text written : List ℕ) : Type 0 where
   pub all_made : reads ≡ most_reads
@@ -32,7 +32,7 @@ pub record IsStoppedByTurns {I : Type 0} (P : Selection) (input' : Device I) (re
 
 -- How a run ended: with how many lines it wrote, or with a fault. The run read the bytes `read` in `reads` reads, and
 -- `text` is those after the mark. Utf16 says that the bytes begin with a byte order mark of UTF-16 and that nothing was
--- written, and OutOfMemory says nothing more.
+-- written. Of an end by Write only the failure of the output is said, and of an end by OutOfMemory nothing.
 abbrev pub EndsAs : {I O : Type 0} → Selection → (I → Option (List ℕ)) → (input input' : Device I)
     → (output output' : Device O) → ℕ → (read text written : List ℕ) → Result ℕ ToolFault → Type 0
 EndsAs P remaining input input' output output' reads read text written (Ok count) =
@@ -48,10 +48,12 @@ EndsAs P remaining input input' output output' reads read text written (Err (fau
 EndsAs P remaining input input' output output' reads read text written (Err faults.Utf16) =
     IsWide read × (written ≡ [])
 
--- A run that writes the lines of a reader that are selected. The byte order mark of UTF-8 with which the bytes may
--- begin is passed over. Whatever ended the run, what was written is a front of those lines. The result names a device
--- that failed (`read_rises`, `write_rises`). `remaining` gives the bytes that a reader has left, and `contents` those
--- that an output was given; `input'` and `output'` are the reader and the output after the run.
+-- A run that writes the lines of a reader that are selected. It read the bytes `read` in `reads` reads, at most
+-- 10,000,000. A byte order mark of UTF-8 before the text is passed over, and bytes that begin with one of UTF-16 are
+-- refused (`narrow`). Whatever ended the run, `written` is a front of the selected lines (`begun`). If the count of
+-- failures of the reader or the output rises, the result says so (`read_rises`, `write_rises`). `remaining` gives the
+-- bytes that a reader has left, and `contents` those that an output was given; `input'` and `output'` are the reader
+-- and the output after the run.
 pub record SelectsLines {I O : Type 0} (P : Selection) (remaining : I → Option (List ℕ))
     (contents : O → Option (List ℕ)) (input input' : Device I) (output output' : Device O)
     (result : Result ℕ ToolFault) : Type 0 where

@@ -44,8 +44,8 @@ AreSelected P (line ∷ lines) selected =
     (P line × (rest : List (List ℕ)) × (selected ≡ line ∷ rest) × AreSelected P lines rest)
     ⊎ ((P line → ⊥) × AreSelected P lines selected)
 
--- the most bytes that are kept of a line: 1,024 of the longest tag, one that tells that the line is too long, and a
--- carriage return (13)
+-- the most bytes that are kept of a line: 1,024 of the longest tag, one more by which a line is known to be too long,
+-- and a carriage return (13)
 abbrev pub longest_kept : ℕ
 longest_kept = 1026
 
@@ -71,7 +71,8 @@ pub record IsOwedToLastFeed (P : Selection) (bytes written : List ℕ) : Type 0 
   pub are : AreSelected P lines selected
   pub all : written ≡ whole_lines selected
 
--- what was written is a front of the selected ones of the first lines of the bytes
+-- what was written is a front, that is, the first bytes, of the selected ones of some first lines of the bytes, each
+-- with a line feed
 pub record IsBegun (P : Selection) (bytes written : List ℕ) : Type 0 where
   pub lines : List (List ℕ)
   pub others : List (List ℕ)

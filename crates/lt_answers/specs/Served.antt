@@ -50,21 +50,22 @@ ServesAmong R preferences lines (Some line) = ServesLine R preferences lines lin
 abbrev pub texts_of : List (Vec ℕ Global) → List (List ℕ)
 texts_of lines = map (λ (line : Vec ℕ Global). line.items) lines
 
--- a line was put after others, and the subtags `list` after theirs
+-- a line was put after others, `old`, which gives `new`, and its subtags, `list`, after theirs, `tags`, which gives
+-- `tags'`
 pub record PutsLine (line : List ℕ) (list : List (List ℕ)) (old new : List (Vec ℕ Global))
     (tags tags' : List (List (List ℕ))) : Type 0 where
   pub lines : texts_of new ≡ texts_of old ++ line ∷ []
   pub lists : tags' ≡ tags ++ list ∷ []
 
--- `old` are those of any lines that are tags, and become `new`, those of these lines and one line more; `kept` is what
--- is kept of that line
+-- If `old` are the tags among any lines, and `tags` their subtags, then `new` and `tags'` are the same for these lines
+-- and one further line, of which `kept` is kept.
 abbrev pub TakesTag : List EntryParts → (kept : List ℕ) → (old new : List (Vec ℕ Global))
     → (tags tags' : List (List (List ℕ))) → Type 0
 TakesTag R kept old new tags tags' = (lines : List (List ℕ)) (line : List ℕ) → kept ≡ take longest_kept line
     → AreTagLines R lines (texts_of old) tags → AreTagLines R (lines ++ line ∷ []) (texts_of new) tags'
 
--- by whatever entries `R`, if `kept` are the lines that are tags among some lines, and `tags` their subtags, then
--- `found` is what the preferences serve among these lines
+-- if, by any entries `R`, `kept` are the tags among some lines, and `tags` their subtags, then `found` is what the
+-- preferences serve among these lines
 abbrev pub ServesOf : List Preference → (kept : List (Vec ℕ Global)) → (tags : List (List (List ℕ)))
     → Option (Vec ℕ Global) → Type 0
 ServesOf preferences kept tags found = (R : List EntryParts) (lines : List (List ℕ))

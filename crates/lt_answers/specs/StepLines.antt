@@ -17,7 +17,8 @@ pub record IsStepLine (line : List ℕ) (step : Step) (text : List ℕ) : Type 0
   pub number : step.number < 2 ^ 32
   pub line_is : line ≡ step_line step text
 
--- the line is four words with a space (32) between them, of which the last, the text, may have spaces
+-- the line is four words with a space (32) between them: a name, a place and a number without spaces, and a text, which
+-- may have spaces
 pub record HasWords (line name place number text : List ℕ) : Type 0 where
   pub name_free : IsFreeOf 32 name
   pub place_free : IsFreeOf 32 place

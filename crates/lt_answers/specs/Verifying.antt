@@ -35,8 +35,9 @@ EndsAs R t remaining input input' reads read (Err (faults.BadTsv line)) = ⊥
 EndsAs R t remaining input input' reads read (Err faults.Utf16) = ⊥
 EndsAs R t remaining input input' reads read (Err faults.OutOfMemory) = Unit {0}
 
--- a run over the lines of a reader, which are judged as an explanation of `t`: `remaining` gives the bytes that a
--- reader has left, and `input` and `input'` are the reader before and after the run
+-- A run over the lines of a reader, which are judged as an explanation of `t`. It read the bytes `read` in `reads`
+-- reads, at most 10,000,000. If the count of failures of the reader rises, the result is Read (`read_rises`).
+-- `remaining` gives the bytes that a reader has left, and `input` and `input'` are the reader before and after the run.
 pub record VerifiesLines {I : Type 0} (R : List EntryParts) (t : TagForm)
     (remaining : I → Option (List ℕ)) (input input' : Device I)
     (result : Result Verdict ToolFault) : Type 0 where
@@ -62,7 +63,8 @@ pub record KeepsMore (part : List ℕ) (old new : Following) : Type 0 where
   pub here : new.here ≡ old.here
   pub number : new.number ≡ old.number
 
--- a line was judged: it leads to the tag `here`, or is that of the end
+-- a line was judged, so that the next one comes: the line leads to the tag `here`, or, if that is None, it is the line
+-- of the end
 pub record GoesTo (here : Option TagForm) (old new : Following) : Type 0 where
   pub there : new.here ≡ here
   pub emptied : new.kept.items ≡ []
@@ -88,8 +90,9 @@ SettlesKept R state None = KeepsFew R state.here (length state.kept.items)
 SettlesKept R state (Some v) = (more : List ℕ) → IsOneLine state.kept.items
     → Judges R state.number state.here (lines_of (state.kept.items ++ more)) v
 
--- a piece was taken in: whatever bytes follow, the verdict on what is kept now and them is that on what was kept, the
--- piece and them
+-- A piece was taken in. Whatever bytes follow it, the verdict from the new state on what is kept there and these bytes
+-- is also the verdict from the old state on what was kept there, the piece and these bytes (`follows`). The tag to
+-- which the lines lead is proper, and at most one line was counted for each byte of the piece.
 pub record Takes (R : List EntryParts) (piece : List ℕ) (old new : Following) : Type 0 where
   pub proper : IsProperIf R new.here
   pub counted : new.number ≤ old.number + length piece
@@ -98,8 +101,7 @@ pub record Takes (R : List EntryParts) (piece : List ℕ) (old new : Following) 
       → Judges R new.number new.here (lines_of (new.kept.items ++ more)) v
       → Judges R old.number old.here (lines_of (old.kept.items ++ (piece ++ more))) v
 
--- a piece of bytes settles this verdict, whatever follows; or it was taken in, and what is kept of a line is short
--- enough
+-- a piece of bytes settles this verdict, whatever follows; or it was taken in, and few bytes of a line are kept
 abbrev pub TakesPiece : List EntryParts → List ℕ → (old new : Following) → Option Verdict → Type 0
 TakesPiece R piece old new None = Takes R piece old new × KeepsFew R new.here (length new.kept.items)
 TakesPiece R piece old new (Some v) = (more : List ℕ) → IsOneLine old.kept.items

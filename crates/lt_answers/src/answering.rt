@@ -15,7 +15,8 @@ use std::io::{Read, Write};
 /// The most bytes of a line that are answered: 16 MiB, which bounds the memory for a line.
 const LONGEST_LINE: usize = 16_777_216;
 
-/// Appends to `lines` the object that answers `line`, and a line feed, and tells whether the line is refused.
+/// Appends to `lines` the object that answers `line`, and a line feed, and tells whether the line is refused. The call
+/// itself is refused where memory runs out.
 #[tactic(auto, using(crate::proofs::AnsweringLemmas::line_appended))]
 fn append_line<L: Lookup>(
     lines: &mut Vec<u8>,
@@ -49,8 +50,8 @@ struct Objects<'a, L: Lookup> {
 impl<'a, L: Lookup> Lines for Objects<'a, L> {
     ghost longest = { longest_line };
 
-    /// The table is that of the beginning, the bytes are the objects for the lines, and it is known whether one was
-    /// refused.
+    /// The table is that of the beginning, the bytes are the objects for the lines, and `refused` tells whether one of
+    /// the lines was refused.
     ghost answered = { λ first here lines bytes. (here.checked.now ≡ first.checked.now)
         × AreObjects (L.listed here.checked.now) lines bytes here.refused };
 
@@ -82,7 +83,8 @@ impl<'a, L: Lookup> Lines for Objects<'a, L> {
 ///
 /// - `Read`, if a read fails: the object for each line whose line feed was read has been written.
 /// - `TooManyTurns`, if all 10,000,000 reads were made and the last gave bytes: the same objects have been written.
-/// - `Write`, if a write fails or takes none of some bytes, and `OutOfMemory`: a front of the objects was written.
+/// - `Write`, if a write fails or takes none of some bytes, and `OutOfMemory`, if memory runs out: the first bytes of
+///   the objects have been written, perhaps none.
 #[tactic(auto, using(crate::proofs::AnsweringLemmas::none_answered))]
 pub fn write_objects<L: Lookup, R: Read, W: Write>(
     alloc: Global,

@@ -1,4 +1,4 @@
-//! The members of the answer to a text.
+//! The members of an object that are the answer to a text: `canonical`, `fault`, `place` and `variant`.
 ghost use Rattle.std.specs.Prelude.{◌≡◌, ◌++◌, ◌∷◌, Err, IfOk, Ok, OnOk, codes};
 ghost use Rattle.std.specs.Fmt.{decimal};
 ghost use Rattle.lt_show.specs.Strings.{string};

@@ -15,9 +15,9 @@ use std::alloc::Global;
 pub(crate) struct Closest {
     /// The place of the range, counted from 0.
     range: usize,
-    /// How many subtags the tag has.
+    /// How many subtags the tag of the line has, in its extlang form (RFC 5646, 4.5).
     count: usize,
-    /// The line.
+    /// The line as it stands.
     pub(crate) line: Vec<u8>,
 }
 
@@ -44,8 +44,9 @@ fn is_closer(closest: &Option<Closest>, range: usize, count: usize) -> bool
     }
 }
 
-/// Makes `line` the closest one, if its tag, whose subtags are `tag`, is closer than what is found so far. The clause
-/// is on any lines of which `closest` is the closest, since they are not kept: then it is that of them and this line.
+/// Makes `line` the closest one, if its tag, whose subtags are `tag`, is closer than what is found so far. Since the
+/// lines before it are not kept, the clause holds for any lines of which `closest` is the closest: afterwards it is the
+/// closest of them and `line`. Refused where memory runs out.
 fn take_subtags(
     alloc: Global,
     ranges: &[LanguageRange],
@@ -66,10 +67,10 @@ fn take_subtags(
     Ok(())
 }
 
-/// Makes a line the closest one if it is a tag, and an earlier range finds its extlang form than found the closest line
-/// so far, or the same range finds it and it has more subtags. The caller cuts a long line to LONGEST_KEPT bytes, since
-/// what follows them changes nothing. The clause is on any lines before, which are not kept, and any line that is cut
-/// to `line`.
+/// Makes a line the closest one if it is a tag that a range finds by its extlang form, and that range comes before the
+/// range that found the closest line so far, or is the same and this tag has more subtags. The caller cuts a long line
+/// to `LONGEST_KEPT` bytes, since the bytes after them change nothing. The clause holds for any lines before, which are
+/// not kept, and any line that is cut to `line`. Refused where memory runs out.
 pub(crate) fn take_line<L: Lookup>(
     alloc: Global,
     checked: &Checked<L>,

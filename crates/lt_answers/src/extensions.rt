@@ -1,4 +1,4 @@
-//! The values of extensions.
+//! The extensions of a tag as objects of JSON.
 ghost use Rattle.std.specs.Prelude.{◌≡◌, ◌++◌, ◌∷◌, OnOk, codes};
 ghost use Rattle.lt_tag.specs.Extensions.{transform, unicode};
 ghost use Rattle.lt_show.specs.Values.{array, member, member_text};
@@ -21,8 +21,8 @@ fn append_plain(objects: &mut Vec<u8>, extension: &Extension) -> Result<(), Allo
     Ok(())
 }
 
-/// Appends a `t` extension as an object of its parts, or of its subtags if they do not have the form of RFC 6497, 2.2. The
-/// singleton must be `t`, by which `extension_value` takes these parts.
+/// Appends a `t` extension as an object of its parts, or of its subtags if they do not have the form of RFC 6497, 2.2.
+/// The singleton must be `t`, since `extension_value` takes these parts only then.
 #[tactic(auto, using(crate::proofs::ExtensionLemmas::of_transform, crate::proofs::ExtensionLemmas::of_no_transform))]
 fn append_t(objects: &mut Vec<u8>, alloc: Global, extension: &Extension) -> Result<(), OutOfMemory>
     requires { extension.now.singleton ≡ transform }
@@ -36,8 +36,8 @@ fn append_t(objects: &mut Vec<u8>, alloc: Global, extension: &Extension) -> Resu
     Ok(())
 }
 
-/// Appends a `u` extension as an object of its parts, which each has. The singleton must be `u`, by which
-/// `extension_value` takes these parts.
+/// Appends a `u` extension as an object of its parts: each `u` extension has them. The singleton must be `u`, since
+/// `extension_value` takes these parts only then.
 #[tactic(auto, using(crate::proofs::ExtensionLemmas::of_unicode))]
 fn append_u(objects: &mut Vec<u8>, alloc: Global, extension: &Extension) -> Result<(), OutOfMemory>
     requires { extension.now.singleton ≡ unicode }

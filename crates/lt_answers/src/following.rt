@@ -1,5 +1,6 @@
-//! Judging the lines of a reader as an explanation of a tag: each names a step that leads to a further tag, with the
-//! text of that tag, and the last tells the end. A verdict is settled where no further line can change it.
+//! Judging the lines of a reader as an explanation of a tag. Each line names a step that leads to a further tag, with
+//! the text of that tag, for example `Language 1 4 he-IL`; the last tells the end, for example `= he-IL`. A verdict is
+//! settled once no further line can change it.
 ghost use Rattle.std.specs.Prelude.{◌<◌, ◌+◌, ◌^◌, ◌≡◌, IfOk, OnOk, length};
 ghost use Rattle.lt_registry.specs.Validity.{IsProper};
 ghost use Rattle.lt_answers.specs.Judging.{IsProperIf, end_verdict};
@@ -18,9 +19,9 @@ use std::io::Read;
 /// Lines that come in pieces, and what they lead to.
 #[derive(Drop)]
 pub(crate) struct Following {
-    /// The front of the line that no line feed ended so far.
+    /// The front of the last line, which no line feed ended so far: its bytes up to here.
     kept: Vec<u8>,
-    /// The tag to which the lines lead; none after the end.
+    /// The tag to which the lines before that lead, or None after the line of the end.
     here: Option<Tag>,
     /// The number of the line that comes next, counted from 1.
     number: u64,
@@ -38,7 +39,7 @@ impl Following {
         })
     }
 
-    /// Keeps a further part of the line.
+    /// Appends a further part of the line to the front that is kept.
     fn keep(&mut self, part: &[u8]) -> Result<(), OutOfMemory>
         ensures { OnOk result (spec.KeepsMore part.now self.old self.new) }
     {
@@ -85,8 +86,8 @@ impl Following {
         }
     }
 
-    /// Judges the line of which the front is kept: a verdict if the line can't be right however it goes on, else None. The tag
-    /// to which the lines lead must be proper.
+    /// Judges the line of which the front is kept. It gives a verdict only if the line can't be right however it goes
+    /// on; else None, also for a short front. The tag to which the lines lead must be proper.
     fn judge_rest<L: Lookup>(
         &self,
         alloc: Global,
@@ -105,8 +106,8 @@ impl Following {
     }
 
     /// Takes the next bytes, and judges the lines that they end and the front of the line after those. None if no
-    /// verdict is settled yet. The tag to which the lines lead must be proper. The number of the next line, plus one
-    /// and the length of the piece, each byte of which may end a line, must fit into 64 bits.
+    /// verdict is settled yet. The tag to which the lines lead must be proper. The number of the line that comes next,
+    /// plus the length of the piece (each byte of which may end a line) and one, must fit into 64 bits.
     #[tactic(auto, using(crate::proofs::FollowingLemmas::first_turn, crate::proofs::FollowingLemmas::turn_proper, crate::proofs::FollowingLemmas::next_turn, crate::proofs::FollowingLemmas::turn_room))]
     fn take_piece<L: Lookup>(
         &mut self,
@@ -176,8 +177,8 @@ impl<'a, L: Lookup> Pieces<()> for Verifying<'a, L> {
     /// At the end the verdict is that on all bytes, or memory runs out.
     ghost finished = { λ first _ _ read _ result. spec.JudgesAll (L.listed first.table.now) first.following read result };
 
-    /// Judges the lines that the piece ends and the front of the line after those; the first that settles the verdict ends the
-    /// run.
+    /// Judges the lines that the piece ends and the front of the line after those. The first that settles the verdict
+    /// ends the run; if none does, it gives None. Refused where memory runs out.
     fn take_piece(
         &mut self,
         alloc: Global,
@@ -187,17 +188,18 @@ impl<'a, L: Lookup> Pieces<()> for Verifying<'a, L> {
         Ok(self.following.take_piece(alloc, self.table, piece)?)
     }
 
-    /// Judges what is left, and gives the verdict.
+    /// Judges a last line without a line feed, if there is one, and gives the verdict.
     fn finish(&mut self, alloc: Global, _output: &mut ()) -> Result<Verdict, ToolFault> {
         Ok(self.following.finish(alloc, self.table)?)
     }
 }
 
-/// Judges the lines of a reader as an explanation of a proper tag (RFC 5646, 4.5). For example, the lines
-/// `Language 1 4 he-IL` and `= he-IL` explain `iw-IL` if record 4 has the value `he` for `iw`.
+/// Judges the lines of a reader as an explanation of a tag (RFC 5646, 4.5). For example, the lines `Language 1 4 he-IL`
+/// and `= he-IL` explain `iw-IL` if record 4 has the value `he` for `iw`. The tag must be proper by the table: valid,
+/// except that it may repeat variants.
 ///
-/// The lines are read up to the first that settles the verdict, or to the end. Of an unfinished line no more bytes are kept
-/// than the right line has, besides those of one read. After the end of the explanation nothing is kept.
+/// The lines are read up to the first that settles the verdict, or to the end. Of an unfinished line at most 38 bytes
+/// are kept, or as many as a right line has, besides the bytes of one read. After the line of the end nothing is kept.
 ///
 /// - `Read`, if a read fails.
 /// - `TooManyTurns`, if all 10,000,000 reads were made and the last gave bytes.

@@ -1,4 +1,4 @@
-//! Judging one line.
+//! Judging one line of an explanation.
 ghost use Rattle.std.specs.Prelude.{◌≡◌, ◌≢◌, ◌<◌, ◌≤◌, IfOk, MatchBool, length};
 ghost use Rattle.lt_tag.specs.Texts.{text_of};
 ghost use Rattle.lt_registry.specs.Validity.{IsProper};
@@ -14,11 +14,11 @@ use std::alloc::Global;
 /// How judging goes on after a line.
 #[derive(Drop)]
 pub(crate) enum Flow {
-    /// The lines so far lead to this tag.
+    /// The line is right, and leads on to this tag.
     Leads(Tag),
-    /// They end.
+    /// The line is that of the end, and right.
     Ends,
-    /// Whatever follows, this is judged.
+    /// Whatever lines follow, this is the verdict.
     Settled(Verdict),
 }
 
@@ -38,8 +38,8 @@ fn is_longer(alloc: Global, tag: &Tag, text: &[u8]) -> Result<bool, OutOfMemory>
     Ok(written.len() < text.len())
 }
 
-/// Judges the line that says that the explanation ends with `text`. It does if `text` is the text of `here`, the tag to which
-/// the lines before it lead.
+/// Judges the line that says that the explanation ends with `text`. That is right if `text` is the text of `here`, the
+/// tag to which the lines before it lead; else the verdict is `WrongEnd`.
 fn judge_end(alloc: Global, here: &Tag, text: &[u8]) -> Result<Flow, OutOfMemory>
     ensures { IfOk result (EndFlow here.now text.now) }
 {
@@ -50,8 +50,10 @@ fn judge_end(alloc: Global, here: &Tag, text: &[u8]) -> Result<Flow, OutOfMemory
     }
 }
 
-/// Judges a line of an explanation. `here` is the tag to which the lines before it lead, which must be proper, and `number` is
-/// the number of the line, counted from 1.
+/// Judges a line of an explanation. `here` is the tag to which the lines before it lead, which must be proper, and
+/// `number` is the number of the line, counted from 1. The verdict is `WrongEnd` for the line of an end with another
+/// text than that of `here`, `NoSuchStep` for a step that does not lead on from `here`, and `BadStep` for any other
+/// line that is not right.
 pub(crate) fn judge_line<L: Lookup>(
     alloc: Global,
     table: &L,
@@ -85,9 +87,10 @@ pub(crate) fn judge_line<L: Lookup>(
 /// each, as they have 32 bits), with a space after each, 38 in all.
 const LONGEST_LABEL: usize = 38;
 
-/// Judges the front of a line that goes on. `here` is the tag to which the lines before it lead, which must be proper, and
-/// `number` is the number of the line, counted from 1. None if the line may still become right, which it may while its front
-/// is no longer than a label. A verdict if the front is longer than the right line, or names a wrong step.
+/// Judges the front of a line that goes on. `here` is the tag to which the lines before it lead, which must be proper,
+/// and `number` is the number of the line, counted from 1. A front that is no longer than a label is not judged: the
+/// answer is None. A longer one gives None if it is no longer than the right line, and else a verdict; so it does if it
+/// names no step, or a step that does not lead on.
 pub(crate) fn judge_front<L: Lookup>(
     alloc: Global,
     table: &L,

@@ -8,7 +8,7 @@ use itoa::Buffer;
 use lt_rewrite::{Step, StepKind};
 use lt_rows::split_first;
 
-/// The kinds of step.
+/// All kinds of step.
 static KINDS: [StepKind; 14] = [
     StepKind::Extlang,
     StepKind::Language,
@@ -55,7 +55,8 @@ fn number_of(digits: &[u8]) -> Option<u32>
     }
 }
 
-/// The words of a line.
+/// The words of the line of a step: `Language 1 4 he-IL` has the name `Language`, the place `1`, the number `4` and the
+/// text `he-IL`.
 #[derive(Clone, Copy)]
 struct Words<'a> {
     name: &'a [u8],
@@ -82,7 +83,8 @@ fn words_of<'a>(line: &'a [u8]) -> Option<Words<'a>>
     Some(words)
 }
 
-/// The step that a line names, and the text after it. None if the line names no step.
+/// The step that a line names, and the text after it. None if the line names no step: it has too few words, or a name
+/// that no kind has, or a place or a number that is not printed as a number of 32 bits is.
 pub(crate) fn read_step(line: &[u8]) -> Option<(Step, &[u8])>
     ensures { MatchOption result (IsNoName line.now) (λ p. IsStepLine line.now p.0 p.1.now) }
 {

@@ -6,8 +6,8 @@ ghost use Rattle.lt_answers.specs.Laws.{ExplanationsAreRight, HaveOneVerdict, Nu
 use lt_canon::laws::traces_have_one_end;
 use lt_registry::Lookup;
 
-/// Of given lines, the same language ranges always select the same ones, so that one text is to be written for the bytes of a
-/// reader. Nothing is computed here: the contract is the law.
+/// Of the same lines, the same language ranges always select the same ones, by the same scheme and the same entries. So
+/// only one text can be right to write for the bytes of a reader. Nothing is computed here: the contract is the law.
 pub fn selection_is_determined()
     ensures { (R : List EntryParts) → SelectionIsDetermined R }
 {}
@@ -18,7 +18,7 @@ pub fn selection_is_determined()
 pub fn lines_have_one_verdict()
     ensures { (R : List EntryParts) → HaveOneVerdict R }
 {
-    // Lines name the steps of a trace, and by this law a list of steps leads from a tag to one end at most.
+    // Lines name the steps of a trace, and by this law a list of steps leads from a tag to at most one end.
     traces_have_one_end();
 }
 
@@ -32,7 +32,8 @@ fn numbers_fit<L: Lookup>(table: &L)
     }
 }
 
-/// What `explanation_text` gives for the text of a tag is judged right by the same table.
+/// The law that the lines that explain the text of a tag, as `explanation_text` gives them, have the verdict `Right` by
+/// the same table.
 #[tactic(auto, using(crate::proofs::FollowingLemmas::explanations_right))]
 pub fn explanations_are_right<L: Lookup>(table: &L)
     ensures { ExplanationsAreRight (L.listed table.now) }

@@ -1,7 +1,7 @@
-//! What the program `langtag` answers to the lines of a reader besides their canonical texts: to each an object of JSON
-//! (RFC 8259), those that language ranges (RFC 4647, 3.3 and 3.4) or an Accept-Language header (RFC 9110, 12.5.4) select
-//! over extlang forms, so that `zh` and `zh-yue` select `yue-HK`, and the verdict on an explanation. A program of your own
-//! begins with the crate `bcp47`.
+//! What the program `langtag` answers to the lines of a reader besides their canonical texts: an object of JSON (RFC
+//! 8259) for each line; the lines that language ranges (RFC 4647, 3.3 and 3.4) or an Accept-Language header (RFC 9110,
+//! 12.5.4) select by extlang forms (RFC 5646, 4.5), so that `zh` and `zh-yue` select `yue-HK`; and the verdict on an
+//! explanation. A program of your own begins with the crate `bcp47`.
 #![tactic(auto)]
 
 mod answering;

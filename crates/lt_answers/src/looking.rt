@@ -30,11 +30,12 @@ struct LookingUp<'a, L: Lookup> {
 impl<'a, L: Lookup> Lines for LookingUp<'a, L> {
     ghost longest = { longest_kept };
 
-    /// The table and the ranges are those of the beginning, nothing is written, and `closest` is that of the lines.
+    /// The table and the ranges are those of the beginning, nothing is written, and `closest` is the closest of the
+    /// lines.
     ghost answered = { λ first here lines bytes. (here.checked.now ≡ first.checked.now) × (here.ranges.now ≡ first.ranges.now)
         × (bytes ≡ []) × Holds (L.listed here.checked.now) here.ranges.now lines here.closest };
 
-    /// As many bytes as tell the tag of a line.
+    /// As many bytes of a line as tell which tag it is, or that it is too long to be one.
     fn longest(&self) -> usize {
         selecting::LONGEST_KEPT
     }
@@ -67,7 +68,8 @@ impl<'a, L: Lookup> LookingUp<'a, L> {
     }
 }
 
-/// How a run ends if what it writes is kept in memory. A write fails then only if memory runs out.
+/// How a run ends if what it writes is kept in memory: a write fails then only if memory runs out, so `Write` becomes
+/// `OutOfMemory`.
 pub(crate) fn in_memory(end: Result<(), ToolFault>) -> Result<(), ToolFault>
     ensures { result ≡ spec.in_memory end }
 {
@@ -77,9 +79,9 @@ pub(crate) fn in_memory(end: Result<(), ToolFault>) -> Result<(), ToolFault>
     }
 }
 
-/// The line of a reader that lookup finds by a language priority list (RFC 4647, 3.4), as it stands. The first range that
-/// finds a line counts, and of its lines the one to which it is cut the least, and of equal ones the first. None if no range
-/// finds a line: the caller takes a default then.
+/// The line of a reader that lookup finds by a language priority list (RFC 4647, 3.4), as it stands. Only the first
+/// range that finds a line counts. Of the lines that it finds, the answer is the one to which the range is cut the
+/// least, and of equal ones the first. None if no range finds a line: the caller takes a default then.
 ///
 /// A line is looked up as the tag that it is, by the subtags of its extlang form (RFC 5646, 4.5): the range of `yue-HK` finds
 /// `zh-yue`, and then `zh`. No range finds a line that is no valid tag, or a tag that has no extlang form. A range that begins

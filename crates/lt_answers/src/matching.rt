@@ -21,7 +21,7 @@ pub(crate) fn without_return(line: &[u8]) -> &[u8]
     }
 }
 
-/// Whether a text is a tag that one of the ranges matches by the scheme.
+/// Whether a text is a tag that one of the ranges matches by the scheme, in its extlang form (RFC 5646, 4.5).
 fn is_matched<L: Lookup>(
     alloc: Global,
     checked: &Checked<L>,

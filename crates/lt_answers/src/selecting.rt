@@ -14,8 +14,8 @@ use lt_tag::OutOfMemory;
 use std::alloc::Global;
 use std::io::{Read, Write};
 
-/// The most bytes that are kept of a line: 1,024 of the longest tag, one that tells that the line is too long, and a
-/// carriage return.
+/// The most bytes that are kept of a line: 1,024 of the longest tag, one more by which a line is known to be too long,
+/// and a carriage return.
 pub(crate) const LONGEST_KEPT: usize = 1026;
 
 /// What selects lines.
@@ -24,7 +24,7 @@ struct Selecting<'a, L: Lookup> {
     checked: &'a Checked<L>,
     scheme: Scheme,
     ranges: &'a [LanguageRange],
-    /// How many lines are selected.
+    /// How many lines were selected so far.
     count: u64,
 }
 
@@ -36,7 +36,7 @@ impl<'a, L: Lookup> Lines for Selecting<'a, L> {
     ghost answered = { λ first here lines bytes. (here.checked.now ≡ first.checked.now) × (here.scheme ≡ first.scheme) × (here.ranges.now ≡ first.ranges.now)
         × AreOwed (IsSelected (L.listed here.checked.now) here.scheme here.ranges.now) lines bytes here.count };
 
-    /// As many bytes as tell the tag of a line; a longer line is not selected.
+    /// As many bytes of a line as tell which tag it is; a longer line is too long to be one, and is not selected.
     fn longest(&self) -> usize {
         LONGEST_KEPT
     }
@@ -65,14 +65,15 @@ impl<'a, L: Lookup> Lines for Selecting<'a, L> {
 ///
 /// A byte order mark of UTF-8 before the first line is passed over. A line feed ends a line, and bytes after the last
 /// line feed are a line too. A carriage return that ends a line is no part of the tag, and is written with the line.
-/// What is owed for the lines whose line feed was read is written before the next read. Of an unfinished line no more
-/// than 1,026 bytes are kept: those of the longest tag, 1,024, one that tells that the line is too long to be a tag,
+/// Before each read the selected ones of the lines that ended so far are written. Of an unfinished line no more than
+/// 1,026 bytes are kept: 1,024 as the longest tag has, one more by which a line is known to be too long to be a tag,
 /// and a carriage return.
 ///
 /// - `Utf16`, if the bytes begin with a byte order mark of UTF-16: nothing has been written.
 /// - `Read`, if a read fails: what is owed for each line whose line feed was read has been written.
 /// - `TooManyTurns`, if all 10,000,000 reads were made and the last gave bytes: what is owed for these lines has been written.
-/// - `Write`, if a write fails or takes none of some bytes, and `OutOfMemory`: a front of what is owed was written.
+/// - `Write`, if a write fails or takes none of some bytes, and `OutOfMemory`, if memory runs out: the first bytes of
+///   what is owed have been written, perhaps none.
 pub fn select_lines<L: Lookup, R: Read, W: Write>(
     alloc: Global,
     checked: &Checked<L>,

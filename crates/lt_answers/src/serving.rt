@@ -23,7 +23,7 @@ struct Keeping<'a, L: Lookup> {
     checked: &'a Checked<L>,
     /// The lines that are tags.
     lines: Vec<Vec<u8>>,
-    /// The subtags by which these are matched, in the same order.
+    /// The subtags by which these lines are matched, in the same order.
     tags: Vec<TagSubtags>,
 }
 
@@ -34,7 +34,7 @@ impl<'a, L: Lookup> Lines for Keeping<'a, L> {
     ghost answered = { λ first here lines bytes. (here.checked.now ≡ first.checked.now) × (bytes ≡ [])
         × AreTagLines (L.listed here.checked.now) lines (texts_of here.lines.items) here.tags.items };
 
-    /// As many bytes as tell the tag of a line.
+    /// As many bytes of a line as tell which tag it is, or that it is too long to be one.
     fn longest(&self) -> usize {
         selecting::LONGEST_KEPT
     }
@@ -50,7 +50,7 @@ impl<'a, L: Lookup> Lines for Keeping<'a, L> {
     }
 }
 
-/// Puts a line after others, and the subtags of its tag after theirs.
+/// Appends a line to `lines`, and the subtags of its tag to `tags`. Refused where memory runs out.
 fn put_line(
     alloc: Global,
     line: &[u8],
@@ -65,9 +65,10 @@ fn put_line(
     Ok(())
 }
 
-/// Puts a line after others if it is a tag that has an extlang form. The caller cuts a long line to LONGEST_KEPT bytes,
-/// since what follows them changes nothing. The clause is on any lines before of which `lines` are those that are tags,
-/// and any line that is cut to `line`.
+/// Appends a line to `lines`, and its subtags to `tags`, if it is a tag that has an extlang form (RFC 5646, 4.5). The
+/// caller cuts a long line to `LONGEST_KEPT` bytes, since the bytes after them change nothing. The clause holds for any
+/// lines before of which `lines` are those that are tags, and any line that is cut to `line`. Refused where memory runs
+/// out.
 fn take_tag<L: Lookup>(
     alloc: Global,
     checked: &Checked<L>,
@@ -95,7 +96,7 @@ fn line_at(mut lines: Vec<Vec<u8>>, place: usize) -> Option<Vec<u8>>
 }
 
 /// The line that preferences serve of these lines, whose subtags are `tags`. None if the preferences serve none of
-/// them. The clause is on each registry and all lines of a reader of which `lines` are those that are tags.
+/// them. The clause holds for every registry and all lines of a reader of which `lines` are those that are tags.
 fn served(preferences: &[Preference], lines: Vec<Vec<u8>>, tags: &[TagSubtags]) -> Option<Vec<u8>>
     ensures { ServesOf preferences.now lines.items tags.now result }
 {
@@ -103,9 +104,9 @@ fn served(preferences: &[Preference], lines: Vec<Vec<u8>>, tags: &[TagSubtags]) 
     line_at(lines, place)
 }
 
-/// The line of a reader that is to be served by preferences, such as those of an Accept-Language header (RFC 9110, 12.5.4), as
-/// it stands. It is the one that [`best`] serves of the lines that are tags: it is acceptable, and of equal lines the first.
-/// None if the preferences serve no line: the caller takes a default then.
+/// The line of a reader that is to be served by preferences, such as those of an Accept-Language header (RFC 9110,
+/// 12.5.4), as it stands. Of the lines that are tags, it is the one that [`best`] chooses. None if the preferences
+/// serve no line: the caller takes a default then.
 ///
 /// A line is matched as the tag that it is, by the subtags of its extlang form (RFC 5646, 4.5): `yue` is served `zh-yue`. No
 /// line is served that is no valid tag, or a tag that has no extlang form.

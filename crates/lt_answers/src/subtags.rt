@@ -21,8 +21,7 @@ pub(crate) fn append_subtags(objects: &mut Vec<u8>, subtags: &[Subtag]) -> Resul
     Ok(())
 }
 
-/// Appends a member that is not the first of its object, with the comma (44) before it. Its value is the array of these
-/// subtags.
+/// Appends a comma (44) and a member with this name, whose value is the array of these subtags.
 pub(crate) fn append_next_subtags(
     objects: &mut Vec<u8>,
     name: &[u8],

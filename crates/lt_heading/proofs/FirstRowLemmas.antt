@@ -1,4 +1,6 @@
--- The first row of a text that comes in pieces: a piece and the end, by whether the byte order mark is known.
+-- Lemmas for the functions of `FirstRow`, which takes the first row of a text that comes in pieces. They lead from what
+-- `take_text` does to the text after the byte order mark to what a piece, or the end of the bytes, does, whether the
+-- mark is known before or not.
 use Rattle.std.proofs.Common.{◌≡◌, ◌++◌, ◌∙◌, ◌⊎◌, inl, inr, ℕ, List, [], Bool, Option, Some, None, Result, Ok, Err}
 use Rattle.std.proofs.Common.{true, false, length, take, sym, ap, refl, subst, append_assoc, append-nil}
 use Rattle.std.proofs.Math.Seq.{take-append_seam}
@@ -63,11 +65,11 @@ pub undecided_of : (S : Separator) (state : FirstRow) → state.is_begun ≡ fal
 undecided_of S state not (inl b) = unbegun state.is_begun b.begun not
 undecided_of S state not (inr u) = u
 
--- all bytes that were taken, while the mark is not known: those that are kept for it
+-- while the mark is not known, all bytes that were taken are those that are kept for it
 kept_alone : (state : FirstRow) → state.text.items ≡ [] → taken_by state ≡ state.mark.items
 kept_alone state none = ap (λ l. state.mark.items ++ l) none ∙ append-nil state.mark.items
 
--- all bytes that were taken, once they were split into the mark and the text after it
+-- once bytes were split into the mark and the text after it, they are all bytes that were taken
 split_whole : (bytes : List ℕ) (state : FirstRow) → SplitsMark bytes state.mark.items state.text.items → taken_by state ≡ bytes
 split_whole bytes state s = sym s.whole
 
@@ -155,7 +157,7 @@ module _ (S : Separator) (piece : List ℕ) (old new : FirstRow) where
 
 -- ---- the end
 
--- a known mark is split off the bytes that were taken, where none follow
+-- a known mark is that of the bytes that were taken, if no bytes follow
 marked_alone : (state : FirstRow) → IsMarked state → SplitsMark (taken_by state) state.mark.items state.text.items
 marked_alone state m = subst (λ l. SplitsMark l state.mark.items state.text.items) (append-nil (taken_by state))
     (subst (λ l. SplitsMark (taken_by state ++ []) state.mark.items l) (append-nil state.text.items) (m.split []))

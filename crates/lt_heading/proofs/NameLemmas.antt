@@ -1,4 +1,5 @@
--- The names of a heading, one after another, as `look_up_in_row` reads, lists and compares them.
+-- Lemmas for `look_up_in_row`, which reads the names of a heading one after another, lists them and compares each with
+-- the name that is looked for: what is true of the names so far is true with one more.
 use Rattle.std.proofs.Common.{◌≡◌, ◌≢◌, ◌+◌, ◌++◌, ◌∷◌, ◌∙◌, ℕ, Bool, true, false, List, [], inl, inr, length, nat_lt}
 use Rattle.std.proofs.Common.{sym, ap, refl, subst, arith, append_assoc, append-nil, length-append}
 use Rattle.std.proofs.lemmas.Bool.{cases_Bool, ltb-false, ltb-true}
@@ -23,8 +24,8 @@ repeated_more name names other f = record {
       ∙ ap (λ l. f.first ++ name ∷ l) (append_assoc f.between (name ∷ f.last) (other ∷ []));
 }
 
--- how often `name` is among `names` and one more, `other`, which has this number, counted from 1; `is` says whether
--- `other` is `name`
+-- if `found` tells where `name` stands among `names`, `found_then` tells it among these and one more, `other`, which
+-- has this number, counted from 1; `is` says whether `other` is `name`
 pub found_more : (name : List ℕ) (names : List (List ℕ)) (found : Found) (number : ℕ) (is : Bool) (other : List ℕ)
     → number ≡ length names + 1
     → (is ≡ true → other ≡ name) → (other ≡ name → is ≡ true) → IsFound name names found
@@ -84,7 +85,7 @@ first_is S row front field after h =
     let none : front ≡ [] = h.front_is ∙ ap (separated S) (nil_from_length h.before h.number) in
     rw none at h.row_is
 
--- what is after a field, where it begins with a byte: that is the separator, and the field does not end within quotes
+-- if what is after a field begins with a byte, that is the separator, and the field does not end within quotes
 pub after_is : (S : Separator) (field after more : List ℕ) (byte : ℕ) → IsAfterField S field after → after ≡ byte ∷ more
     → IsClosed S field × (after ≡ separator S ∷ more)
 after_is S field after more byte (inl none) is = let bad : [] ≡ byte ∷ more = sym none ∙ is in cc

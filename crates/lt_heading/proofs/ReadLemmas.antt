@@ -1,4 +1,5 @@
--- The heading of a reader's bytes, and the column that `find_column` finds in it.
+-- Lemmas for `find_column`: what a run over pieces reads is the heading of the reader's bytes, or tells why there is
+-- none, and the column that is picked in it is the one that is found.
 use Rattle.std.proofs.Common.{◌≡◌, ◌≤◌, ◌<◌, ◌++◌, ◌∷◌, ◌∙◌, inl, inr, ℕ, List, [], Option, Some, None, Result, Ok, Err}
 use Rattle.std.proofs.Common.{length, ap, refl, subst, arith, append_assoc, length-append}
 use Rattle.std.specs.Io.KnownBytes.{IsAtEnd}
@@ -76,7 +77,8 @@ within S text end e = omega (arith, e.end_is, ap length e.cut, length-append e.r
 
 -- ---- the pieces
 
--- a piece was taken, as a run over pieces asks; `old` and `new` are the heading before and after it
+-- what taking a piece does for the row, it does as a run over pieces asks; `old` and `new` are the heading before and
+-- after it
 module _ (piece : List ℕ) (old new : Heading) (same : new.separator ≡ old.separator) where
   pub piece_taken : (r : Result (Option ℕ) ToolFault) → TakesPiece old.separator piece old.first new.first r
       → pieces.TakesPiece {O = Unit {0}} {P = Heading} {A = ℕ} (λ first start now read here. IsTaken first.separator
@@ -110,7 +112,7 @@ stops S remaining before after reads bytes f (inr (inr long)) = rw long.0 (of_lo
 
 -- the column with a name was looked for in a heading, of which `r` says how it was read
 module _ {I : Type 0} (S : Separator) (name : List ℕ) (remaining : I → Option (List ℕ)) (before after : Device I) (state : FirstRow) where
-  -- the heading was not read
+  -- if the heading was not read, the search ended by the same fault
   pub finds_no_heading : (f : ToolFault) → ReadsHeading S remaining before after state (Err f)
       → FindsColumn S name remaining before after (Err (refusals.Heading f))
   finds_no_heading f r = record {
@@ -124,7 +126,8 @@ module _ {I : Type 0} (S : Separator) (name : List ℕ) (remaining : I → Optio
         ap (λ (g : ToolFault). Err (refusals.Heading g)) named;
   }
 
-  -- how the search ended in a heading with these names, whose first row has the length `end`
+  -- if a heading with these names was read, whose first row has the length `end`, the search did what the contract says
+  -- once it ended so
   finds : (end : ℕ) (names : List (List ℕ)) (result : Result FoundColumn ColumnFault)
       (r : ReadsHeading S remaining before after state (Ok end))
       → EndsFinding S name remaining before after r.reads r.read result → FindsColumn S name remaining before after result
@@ -139,7 +142,7 @@ module _ {I : Type 0} (S : Separator) (name : List ℕ) (remaining : I → Optio
         read_rises = λ rises. let bad = r.read_rises rises in cc;
       }
 
-  -- it found no column, for the fault `e`
+  -- so it did if it found no column, for the fault `e`
   pub finds_fault : (end : ℕ) (names : List (List ℕ)) (e : ColumnFault)
       → ReadsHeading S remaining before after state (Ok end) → AreNamesIn S (heading_in state.text.items end) names
       → PicksColumn name names (Err e)
@@ -154,7 +157,7 @@ module _ {I : Type 0} (S : Separator) (name : List ℕ) (remaining : I → Optio
       })
   finds_fault end names (refusals.Heading f) r are picks = rw picks (finds end names _ r tt)
 
-  -- it found the column with this number, and `front` is all that was read
+  -- so it did if it found the column with this number, and `front` is all that was read
   pub finds_column : (end : ℕ) (names : List (List ℕ)) (found : FoundColumn)
       → (r : ReadsHeading S remaining before after state (Ok end))
       → AreNamesIn S (heading_in state.text.items end) names → IsOnly name names found.number
@@ -172,13 +175,13 @@ module _ {I : Type 0} (S : Separator) (name : List ℕ) (remaining : I → Optio
 
 -- a run that read a heading, with its state after it
 module _ {I : Type 0} (S : Separator) (remaining : I → Option (List ℕ)) (before after : Device I) (state : Heading) where
-  -- what is known of the run by its result
+  -- what is known of the run, by its result `r`
   abbrev Runs : Result ℕ ToolFault → Type 0
   Runs r = RunsPieces {I = I} {O = Unit {0}} {P = Heading} {A = ℕ} (λ start now read here. IsTaken S read here)
       (λ start now read here end. StopsPieces S read here.first end)
       (λ start now read here end. FinishesText S read here.first end) remaining before after tt tt state r
 
-  -- the reader had no more bytes, and those that were read end with the result
+  -- if the reader had no more bytes, and those that were read ended with the result, the reading of the heading did
   finished : (reads : ℕ) (read : List ℕ) (r : Result ℕ ToolFault) → IsAtEnd (remaining (inner_of after))
       → FinishesText S read state.first r → EndsReading S remaining before after state.first reads read r
   finished reads read (Ok end) at_end f = elim f.3 [
@@ -196,7 +199,7 @@ module _ {I : Type 0} (S : Separator) (remaining : I → Option (List ℕ)) (bef
   finished reads read (Err f) at_end (inl quotes) = rw quotes.0 (inl (refl, at_end, quotes.1))
   finished reads read (Err f) at_end (inr stop) = stops S remaining before after reads read f stop
 
-  -- a piece ended the run with the result
+  -- if a piece ended the run with the result, the reading of the heading ended with it
   stopped : (reads : ℕ) (read : List ℕ) (r : Result ℕ ToolFault) → StopsPieces S read state.first r
       → EndsReading S remaining before after state.first reads read r
   stopped reads read (Ok end) p = (

@@ -1,4 +1,4 @@
--- Where line feeds end rows: in TSV each does, in CSV each outside of quotes.
+-- Where rows end: in TSV each line feed ends one, in CSV each line feed outside of quotes. The other files use this.
 use Rattle.std.proofs.Common.{◌≡◌, ◌≢◌, ◌<◌, ◌++◌, ◌∷◌, ℕ, List, [], true, false, length, refl, arith}
 use Rattle.std.proofs.lemmas.List.Elements.{All-append}
 use Rattle.lt_jar.specs.Lines.{IsOneLine}
@@ -10,7 +10,7 @@ use Rattle.lt_rows.specs.declared.rows.Separator.TheVariants as separators
 use Rattle.lt_rows.proofs.RowLemmas.{free-append, free_of_none, place_at-append, records_from-ended, records_from-last}
 use Rattle.lt_heading.specs.Headings.{IsOneRow, IsRowSoFar, is_open, place_then, rows_of}
 
--- a text of no bytes is one row so far
+-- a text of no bytes is one row so far, at whose end a field begins
 pub none_so_far : (S : Separator) → IsRowSoFar S [] places.Fresh
 none_so_far separators.Tab = record { one = λ k d lt. absurd (omega (arith, lt)); place_is = refl; short = omega arith }
 none_so_far (separators.Delimiter delimiter) = record { one = tt; place_is = refl; short = omega arith }
@@ -38,7 +38,7 @@ pub rows_ended : (S : Separator) (row rest : List ℕ) → IsOneRow S row → is
 rows_ended separators.Tab row rest one closed = lines_of-ended row rest one
 rows_ended (separators.Delimiter delimiter) row rest one closed = records_from-ended delimiter places.Fresh row rest one closed
 
--- a text that is one row, and not empty, has that row alone
+-- a text that is one row, and not empty, has only that row
 pub rows_last : (S : Separator) (row : List ℕ) → IsOneRow S row → 0 < length row → rows_of S row ≡ row ∷ []
 rows_last separators.Tab row one some = lines_of-last row one some
 rows_last (separators.Delimiter delimiter) row one some = records_from-last delimiter places.Fresh row one some

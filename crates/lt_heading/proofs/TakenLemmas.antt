@@ -1,4 +1,5 @@
--- The loop of `take_text` over a piece, which is appended to a text that is one row so far.
+-- Lemmas for the loop of `take_text`, which appends a piece to a text that is one row so far: what is true at each turn
+-- of it (`TextTurn`), and what it gives where the row ends, goes on or gets too long.
 use Rattle.std.proofs.Common.{◌≡◌, ◌++◌, ◌∷◌, ◌∙◌, inl, inr, ℕ, List, [], Some, None, Ok, Err, true, false, length, sym}
 use Rattle.std.proofs.Common.{ap, refl, append_assoc, append-nil}
 use Rattle.lt_jar.specs.Lines.{IsOneLine}
@@ -21,7 +22,7 @@ pub record TextTurn (S : Separator) (old piece text : List ℕ) (place : Place) 
 pub whole_row : (S : Separator) (text : List ℕ) (place : Place) → IsRowSoFar S text place → is_quoted place ≡ false → IsWholeRow S text
 whole_row S text place h closed = record { one = h.one; closed = ap is_quoted (sym h.place_is) ∙ closed; short = h.short }
 
--- before the loop nothing of the piece is appended
+-- before the loop nothing of the piece is appended, and all of it is left
 pub turn_first : (S : Separator) (old piece : List ℕ) (place : Place) → IsRowSoFar S old place → TextTurn S old piece old place piece
 turn_first S old piece place h = record { front = []; split = refl; text_is = sym (append-nil old); so_far = h }
 

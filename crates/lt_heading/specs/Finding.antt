@@ -28,8 +28,8 @@ pub record ReadsNames {I : Type 0} (S : Separator) (remaining : I → Option (Li
   pub are_names : AreNamesIn S heading names
   pub holds : Holds names
 
--- How the search for a column ended: it is the only one with the name, and all bytes that were read are kept. Or the
--- line says why there is no such column. Or the heading was not read.
+-- How the search for a column ended. The column found is the only one with the name, and all bytes that were read are
+-- kept (`front`). Or the line `said` says why there is no such column. Or the heading was not read, by the fault `f`.
 abbrev pub EndsFinding : {I : Type 0} → Separator → (name : List ℕ) → (I → Option (List ℕ)) → (before after : Device I)
     → (reads : ℕ) → (read : List ℕ) → Result FoundColumn ColumnFault → Type 0
 EndsFinding S name remaining before after reads read (Ok found) = (found.front.items ≡ read)
@@ -39,8 +39,9 @@ EndsFinding S name remaining before after reads read (Err (refusals.Name said)) 
 EndsFinding S name remaining before after reads read (Err (refusals.Heading f)) =
     StopsHeading S remaining before after reads read f
 
--- the column with a name was looked for in the heading of a reader's rows; `before` and `after` are the reader's
--- device, whose bytes `remaining` gives
+-- The column with a name was looked for in the heading of a reader's rows. So many `reads`, at most 10,000,000, gave
+-- the bytes `read`. If the count of failures rises, the result says so (`read_rises`). `before` and `after` are the
+-- reader's device, and `remaining` tells what a reader has still to give.
 pub record FindsColumn {I : Type 0} (S : Separator) (name : List ℕ) (remaining : I → Option (List ℕ))
     (before after : Device I) (result : Result FoundColumn ColumnFault) : Type 0 where
   pub read : List ℕ
@@ -53,7 +54,8 @@ pub record FindsColumn {I : Type 0} (S : Separator) (name : List ℕ) (remaining
 
 -- ---- the steps
 
--- the column with the name was picked from these names
+-- the number of the only column with the name was picked from these names; or a line says why there is no such column;
+-- or memory ran out
 abbrev pub PicksColumn : (name : List ℕ) → List (List ℕ) → Result ℕ ColumnFault → Type 0
 PicksColumn name names (Ok number) = IsOnly name names number
 PicksColumn name names (Err (refusals.Name said)) = IsNameFault name names (string_bytes said)

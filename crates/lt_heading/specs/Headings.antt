@@ -64,7 +64,7 @@ pub record HasOpenHeading (S : Separator) (bytes : List ℕ) : Type 0 where
   pub one : IsOneRow S text
   pub inside : is_open S text ≡ true
 
--- the text begins with a row that is too long
+-- the text begins with a row that is too long: already the first bytes of that row, `begun`, are too many
 pub record BeginsLong (S : Separator) (text : List ℕ) : Type 0 where
   pub begun : List ℕ
   pub rest : List ℕ
@@ -84,9 +84,9 @@ abbrev pub long_fault : Separator → ToolFault
 long_fault separators.Tab = faults.BadTsv 1
 long_fault (separators.Delimiter delimiter) = faults.BadCsv 1
 
--- Why the heading of a reader was not read: `before` and `after` are its device, whose bytes `remaining` gives, and
--- `read` the bytes that so many `reads` gave. BadCsv: the reader ended within quotes, or the row is too long.
--- OutOfMemory may be answered of any reader.
+-- What is true if the heading of a reader was not read, by the fault. BadCsv: the reader ended within quotes, or the
+-- row is too long. Write is never the fault, and OutOfMemory may always be. `before` and `after` are the reader's
+-- device, `remaining` tells what a reader has still to give, and so many `reads` gave the bytes `read`.
 abbrev pub StopsHeading : {I : Type 0} → Separator → (I → Option (List ℕ)) → (before after : Device I)
     → (reads : ℕ) → (read : List ℕ) → ToolFault → Type 0
 StopsHeading S remaining before after reads read faults.Read = HasFailed before after
@@ -101,8 +101,8 @@ StopsHeading S remaining before after reads read faults.Utf16 = IsWide read
 StopsHeading S remaining before after reads read faults.Write = ⊥
 StopsHeading S remaining before after reads read faults.OutOfMemory = Unit {0}
 
--- the heading of all bytes of a reader, of which `read` was read: it is the same whatever bytes follow, or none
--- follow; `remaining` gives the bytes that are left
+-- `heading` is the heading of all bytes of a reader, of which `read` was read: it is their heading whatever bytes
+-- follow, or the reader is at its end; `remaining` tells what a reader has still to give
 abbrev pub KnowsHeading : {I : Type 0} → Separator → (I → Option (List ℕ)) → (after : Device I)
     → (read : List ℕ) → (heading : Option (List ℕ)) → Type 0
 KnowsHeading S remaining after read heading =
@@ -129,15 +129,15 @@ abbrev pub heading_in : (text : List ℕ) → (end : ℕ) → Option (List ℕ)
 heading_in [] end = None
 heading_in (byte ∷ text) end = Some (take end (byte ∷ text))
 
--- `part` was appended to `old`, the text of a row at whose end the place is the given one, and this gave `new` and
--- the next place; or the row got too long, or memory ran out
+-- `part` was appended to `old`, the text of a row at whose end the place is the given one, and this gave `new`, which
+-- is not too long, and the next place; or the row got too long, or memory ran out
 abbrev pub AppendsPart : Separator → Place → (part old new : List ℕ) → Result Place ToolFault → Type 0
 AppendsPart S place part old new (Ok next) =
     (new ≡ old ++ part) × (next ≡ place_then S place part) × (length new ≤ longest_row)
 AppendsPart S place part old new (Err f) =
     (f ≡ faults.OutOfMemory) ⊎ ((f ≡ long_fault S) × (longest_row < length (old ++ part)))
 
--- the text is one row so far, or its first row has this length
+-- the text is one row so far, and the place at its end is this one; or its first row has this length
 abbrev pub IsRowIn : Separator → (text : List ℕ) → Place → (end : Option ℕ) → Type 0
 IsRowIn S text place None = IsRowSoFar S text place
 IsRowIn S text place (Some end) = EndsRow S text end
@@ -175,33 +175,35 @@ pub record IsUndecided (state : FirstRow) : Type 0 where
 abbrev pub IsGoing : Separator → FirstRow → Type 0
 IsGoing S state = IsBegun S state ⊎ IsUndecided state
 
--- why the first row can't be taken: it is too long, the bytes are UTF-16, or memory ran out
+-- why the first row can't be taken: memory ran out, the bytes begin with a mark of UTF-16, or the row is too long
 abbrev pub StopsText : Separator → (bytes : List ℕ) → ToolFault → Type 0
 StopsText S bytes f = (f ≡ faults.OutOfMemory) ⊎ (((f ≡ faults.Utf16) × IsWide bytes)
     ⊎ ((f ≡ long_fault S) × HasLongHeading S bytes))
 
--- a piece was taken: the first row goes on, or has this length, or can't be taken
+-- a piece was taken, and all bytes are kept: the first row goes on, or has this length; or the row can't be taken
 abbrev pub TakesPiece : Separator → (piece : List ℕ) → (old new : FirstRow) → Result (Option ℕ) ToolFault → Type 0
 TakesPiece S piece old new (Ok None) = (taken_by new ≡ taken_by old ++ piece) × IsGoing S new
 TakesPiece S piece old new (Ok (Some end)) =
     (taken_by new ≡ taken_by old ++ piece) × IsMarked new × EndsRow S new.text.items end
 TakesPiece S piece old new (Err f) = StopsText S (taken_by old ++ piece) f
 
--- the byte order mark in the kept bytes was split off, and the text after it taken: it is one row so far, or its first
--- row has this length, or why it can't be taken
+-- The byte order mark in the kept bytes was split off, and the text after it taken: it is one row so far, or its first
+-- row has this length. Or the row is too long, or memory ran out.
 abbrev pub BeginsText : Separator → (old new : FirstRow) → Result (Option ℕ) ToolFault → Type 0
 BeginsText S old new (Ok end) = (new.is_begun ≡ true)
     × SplitsMark old.mark.items new.mark.items new.text.items × IsRowIn S new.text.items new.place end
 BeginsText S old new (Err f) = (f ≡ faults.OutOfMemory) ⊎ ((f ≡ long_fault S) × HasLongHeading S old.mark.items)
 
--- a text that was one row so far ended: this is its length, or it ends within quotes
+-- the text after the mark ended: this is its length, and if it was one row so far, it is a whole row; or the fault is
+-- BadCsv, and the text ends within quotes
 abbrev pub EndsText : Separator → FirstRow → Result ℕ ToolFault → Type 0
 EndsText S state (Ok end) = (end ≡ length state.text.items)
     × (IsRowSoFar S state.text.items state.place → IsWholeRow S state.text.items)
 EndsText S state (Err f) = (f ≡ faults.BadCsv 1)
     × (IsRowSoFar S state.text.items state.place → is_open S state.text.items ≡ true)
 
--- the bytes ended: this is the length of their first row, or why that can't be taken
+-- the bytes ended: this is the length of their first row; or the fault says that they end within its quotes, or why
+-- the row can't be taken
 abbrev pub FinishesText : Separator → (bytes : List ℕ) → (new : FirstRow) → Result ℕ ToolFault → Type 0
 FinishesText S bytes new (Ok end) = (taken_by new ≡ bytes)
     × SplitsMark bytes new.mark.items new.text.items × (IsWide bytes → ⊥)
@@ -214,20 +216,23 @@ pub record IsTaken (S : Separator) (read : List ℕ) (here : Heading) : Type 0 w
   pub taken : taken_by here.first ≡ read
   pub going : IsGoing S here.first
 
--- the bytes that were read end the first row, which has this length, or it can't be taken
+-- the bytes that were read end the first row, which has this length; or the row can't be taken
 abbrev pub StopsPieces : Separator → (read : List ℕ) → FirstRow → Result ℕ ToolFault → Type 0
 StopsPieces S read state (Ok end) = (taken_by state ≡ read) × IsMarked state × EndsRow S state.text.items end
 StopsPieces S read state (Err f) = StopsText S read f
 
--- how the reading of the heading of a reader ended, after so many reads, which gave the bytes `read`
+-- How the reading of the heading of a reader ended, after so many `reads`, which gave the bytes `read`: all of them are
+-- kept and the heading, which ends at this index, is known; or the fault says why it was not read.
 abbrev pub EndsReading : {I : Type 0} → Separator → (I → Option (List ℕ)) → (before after : Device I)
     → FirstRow → (reads : ℕ) → (read : List ℕ) → Result ℕ ToolFault → Type 0
 EndsReading S remaining before after state reads read (Ok end) = (taken_by state ≡ read)
     × (end ≤ length state.text.items) × KnowsHeading S remaining after read (heading_in state.text.items end)
 EndsReading S remaining before after state reads read (Err f) = StopsHeading S remaining before after reads read f
 
--- the heading of a reader was read: `before` and `after` are its device, whose bytes `remaining` gives, `state` is
--- the text that was taken, and `result` the length of its first row, or why there is none
+-- The heading of a reader was read. So many `reads`, at most 10,000,000, gave the bytes `read`. `state` is the text
+-- that was taken, and `result` the length of its first row, or why there is none. If the count of failures rises, the
+-- result says so (`read_rises`). `before` and `after` are the reader's device, and `remaining` tells what a reader has
+-- still to give.
 pub record ReadsHeading {I : Type 0} (S : Separator) (remaining : I → Option (List ℕ)) (before after : Device I)
     (state : FirstRow) (result : Result ℕ ToolFault) : Type 0 where
   pub read : List ℕ

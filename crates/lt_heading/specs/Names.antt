@@ -11,8 +11,8 @@ use Rattle.lt_heading.specs.declared.names.Found.{Found}
 use Rattle.lt_heading.specs.declared.names.Found.TheVariants as founds
 use Rattle.lt_heading.specs.declared.names.Looked.{Looked}
 
--- a text in quotes as it is meant, with one quote (34) for each two; `after_quote` says whether the byte before it is
--- a quote that stays (RFC 4180, 2)
+-- a text in quotes as it is meant, with one quote (34) for each doubled one (RFC 4180, 2); `after_quote` says whether
+-- the byte before it is a quote that was kept, so that a quote after it is left out
 abbrev pub undoubled : (after_quote : Bool) → List ℕ → List ℕ
 undoubled after_quote [] = []
 undoubled after_quote (byte ∷ text) =
@@ -64,7 +64,7 @@ pub record IsRepeated (name : List ℕ) (names : List (List ℕ)) : Type 0 where
   pub last : List (List ℕ)
   pub cut : names ≡ first ++ name ∷ (between ++ name ∷ last)
 
--- how often the name is among these, and which it is
+-- whether the name is none of these, only the one with this number, or more than one
 abbrev pub IsFound : (name : List ℕ) → List (List ℕ) → Found → Type 0
 IsFound name names founds.Missing = Lacks name names
 IsFound name names (founds.Only number) = IsOnly name names number
@@ -118,7 +118,8 @@ name_line whose name names = shown_line whose (shown_name name) (shown_names nam
 abbrev pub listed_after : (count : ℕ) → (name : List ℕ) → List ℕ
 listed_after count name = if nat_lt count most_listed then shown_name name else []
 
--- how often a name is found, after a further column with this number, which has the name or not
+-- where a name stands among the columns so far and a further one with this number; `is_name` says whether that one has
+-- the name
 abbrev pub found_then : Found → (number : ℕ) → (is_name : Bool) → Found
 found_then found number false = found
 found_then founds.Missing number true = founds.Only number
@@ -131,9 +132,9 @@ pub record LooksUp (S : Separator) (heading : Option (List ℕ)) (name : List �
   pub is_found : IsFound name names looked.found
   pub listed : string_bytes looked.listed ≡ shown_names names
 
--- The name was looked up among the first `count` names of a row, before its `rest`; `listed` is the list of these
--- names. Whatever names the rest has, the row has these before them (`are_names`); the row has a byte for each of these
--- beside the rest (`room`).
+-- The name was looked up among the first `count` names of a row, before its `rest`, and this was found. `listed` is the
+-- list of these names. Whatever names the rest has, the row has these names before them (`are_names`). The row has at
+-- least one byte for each of these names beside the rest (`room`).
 pub record LooksSo (S : Separator) (row rest name : List ℕ) (found : Found) (listed : List ℕ) (count : ℕ) : Type 0 where
   pub names : List (List ℕ)
   pub are_names : (more : List (List ℕ)) → AreNames S rest more → AreNames S row (names ++ more)

@@ -1,5 +1,5 @@
-//! Finding the column that has a name in the heading, which is the first row of a reader. What was read for it, the
-//! front, is given too, since the rows are answered from its beginning.
+//! Finding the column that has a name in the heading, which is the first row of a reader. The bytes that were read for
+//! it, the front, are given too, since the rows in them are still to be answered.
 ghost use Rattle.std.specs.Prelude.{◌≡◌, ◌≤◌, ℕ, List, IfOk, length, string_bytes};
 ghost use Rattle.std.specs.Option.{option_map};
 ghost use Rattle.lt_stream.specs.declared.faults.ToolFault.TheVariants.{OutOfMemory};
@@ -16,7 +16,7 @@ use lt_stream::{ToolFault, run_pieces};
 use std::alloc::{AllocError, Global};
 use std::io::Read;
 
-/// The only column of a name.
+/// The only column that has the name.
 #[derive(Drop)]
 pub struct FoundColumn {
     /// Its number, counted from 1.
@@ -28,13 +28,13 @@ pub struct FoundColumn {
 /// Why no column was found.
 #[derive(Debug, Drop)]
 pub enum ColumnFault {
-    /// The heading was not read, or memory ran out over it.
+    /// The heading can't be read, or memory ran out.
     Heading(ToolFault),
     /// No column has the name, or more than one, as this line says.
     Name(String),
 }
 
-/// By this `?` makes a fault of reading one of the heading; so says `from_gives`.
+/// With this, `?` turns a fault of reading into `Heading` with this fault, as `from_gives` says.
 impl From<ToolFault> for ColumnFault {
     ghost from_gives = { λ fault given. given ≡ Heading fault };
 
@@ -43,7 +43,7 @@ impl From<ToolFault> for ColumnFault {
     }
 }
 
-/// The same, of a lack of memory.
+/// With this, `?` turns a lack of memory into `Heading` with `OutOfMemory`.
 impl From<AllocError> for ColumnFault {
     ghost from_gives = { λ _ given. given ≡ Heading OutOfMemory };
 
@@ -52,8 +52,8 @@ impl From<AllocError> for ColumnFault {
     }
 }
 
-/// The line that says why a name is not found: `whose` has the name `shown`, where `whose` is `no column` or
-/// `more than one column`. `listed` are the names of the heading, which are given, like `shown`, as they are shown.
+/// The line that says why a name is not found, for example `error: no column has the name "x"; names: "a" "b"`, where
+/// `whose` is `no column`, `shown` is ` "x"` and `listed` is ` "a" "b"`. Refused where memory runs out.
 fn line_of(alloc: Global, whose: &str, shown: &str, listed: &str) -> Result<String, AllocError>
     ensures { IfOk result (λ line. string_bytes line ≡ shown_line whose.now shown.now listed.now) }
 {
@@ -65,8 +65,9 @@ fn line_of(alloc: Global, whose: &str, shown: &str, listed: &str) -> Result<Stri
     Ok(line)
 }
 
-/// The number of the only column of a name. If there is none, or more than one, the refusal is the line that says so.
-/// `looked` doesn't keep the names of the heading, so the clause is on each list of names of which it is true.
+/// The number of the only column that has a name, by what `looked` says. If there is none, or more than one, it is
+/// refused with the line that says so; if memory runs out, with `Heading(OutOfMemory)`. `looked` doesn't keep the names
+/// of the heading, so the clause holds for every list of names of which it is true.
 fn pick_column(alloc: Global, looked: &Looked, name: &str) -> Result<usize, ColumnFault>
     ensures { (names : List (List ℕ)) → IsFound name.now names looked.now.found → string_bytes looked.now.listed ≡ shown_names names → PicksColumn name.now names result }
 {
@@ -94,8 +95,8 @@ fn heading_in(text: &[u8], end: usize) -> Option<&[u8]>
 
 /// Finds the only column that has a name in the heading of rows, which is the first of them, after a byte order mark of
 /// UTF-8. The texts of its fields are the names. In a quoted field each doubled quote is one quote, and a carriage return
-/// that ends the heading is no part of the last name. Names are equal where all bytes are. If there is no row, no column has
-/// a name. It reads until the heading is whole, and gives all bytes that it read.
+/// that ends the heading is no part of the last name. Two names are equal if all their bytes are. If there is no row,
+/// no column has a name. It reads until the heading is whole, and gives all bytes that it read.
 ///
 /// - `Name`, if no column has the name, or more than one: the text is one line that says so and has the first 64 names, each
 ///   cut to 64 bytes.

@@ -1,4 +1,4 @@
-//! Reading the first row of a text.
+//! Reading the first row of a text that comes in pieces, after its byte order mark, if it has one.
 ghost use Rattle.std.specs.Prelude.{◌≡◌, [], IfOk};
 ghost use Rattle.lt_heading.specs.Headings as spec;
 ghost use Rattle.lt_heading.specs.Headings.{AppendsPart, BeginsText, EndsText, FinishesText, IsGoing, IsRowSoFar, IsUndecided, TakesPiece, TakesText};
@@ -19,7 +19,7 @@ pub(crate) struct FirstRow {
     is_begun: bool,
     /// The text after the mark.
     pub(crate) text: Vec<u8>,
-    /// The place after that, while it is one row.
+    /// The place at the end of that text, within quotes or outside, while the text is one row.
     place: Place,
 }
 
@@ -89,7 +89,7 @@ fn take_text(
 }
 
 impl FirstRow {
-    /// No bytes taken so far (`nothing`), so that a byte order mark may still come (`undecided`).
+    /// The state before any byte is taken (`nothing`): a byte order mark may still come (`undecided`).
     pub(crate) fn new(alloc: Global) -> FirstRow
         ensures undecided { IsUndecided result }
         ensures nothing { spec.taken_by result ≡ [] }
@@ -102,9 +102,9 @@ impl FirstRow {
         }
     }
 
-    /// Splits the byte order mark off the bytes that are kept, and takes the text after it. It gives the index in that
-    /// text at which the first row ends, or None if it goes on. Refused as `append_part` is. No text must have been
-    /// taken before (`none`), so that the place is still that where a text begins (`fresh`).
+    /// Splits the byte order mark off the bytes that are kept in `mark`, and takes the bytes after it as text. It gives
+    /// the index in that text at which the first row ends, or None if the row goes on. Refused as `append_part` is. No
+    /// text must have been taken before (`none`), so that the place is still the one where a text begins (`fresh`).
     fn begin(&mut self, separator: Separator) -> Result<Option<usize>, ToolFault>
         requires none { self.old.text.items ≡ [] }
         requires fresh { self.old.place ≡ Place.Fresh }
@@ -118,9 +118,9 @@ impl FirstRow {
         Ok(end)
     }
 
-    /// Takes the next bytes, and gives the index in the text after the mark at which the first row ends, or None if it goes
-    /// on. Refused with `Utf16` if the bytes begin with a byte order mark of UTF-16, or as `append_part` is. The bytes before
-    /// must not have ended the first row.
+    /// Takes the next bytes, and gives the index in the text after the mark at which the first row ends, or None if the
+    /// row goes on. Refused with `Utf16` if all bytes so far begin with a byte order mark of UTF-16, or as
+    /// `append_part` is. The bytes before must not have ended the first row.
     fn take_piece(&mut self, separator: Separator, piece: &[u8]) -> Result<Option<usize>, ToolFault>
         requires { IsGoing separator self.old }
         ensures { TakesPiece separator piece.now self.old self.new result }
@@ -152,8 +152,8 @@ impl FirstRow {
         Ok(mark)
     }
 
-    /// Ends the text, which is one row, and gives its length. Refused with `BadCsv(1)` if a quote is open. That depends
-    /// on the place alone, so the clause holds for every separator.
+    /// Ends the text, which is one row, and gives its length. Refused with `BadCsv(1)` if the text ends within quotes.
+    /// Only `place` tells that, so the clause holds for every separator.
     fn end_text(&self) -> Result<usize, ToolFault>
         ensures { (separator : Separator) → EndsText separator self.now result }
     {
@@ -164,7 +164,7 @@ impl FirstRow {
     }
 
     /// Ends the bytes, and gives the index in the text after the mark at which the first row ends. Refused with `BadCsv(1)`
-    /// if a quote is open, or as `append_part` is. The bytes must not have ended the first row.
+    /// if the text ends within quotes, or as `append_part` is. The bytes must not have ended the first row before.
     fn finish(&mut self, separator: Separator) -> Result<usize, ToolFault>
         requires { IsGoing separator self.old }
         ensures { FinishesText separator (spec.taken_by self.old) self.new result }
@@ -189,16 +189,17 @@ pub(crate) struct Heading {
 impl Pieces<()> for Heading {
     type Answer = usize;
 
-    /// Between two pieces all bytes that were read are kept, and don't end the first row.
+    /// Between two pieces all bytes that were read are kept, and they don't end the first row.
     ghost taken = { λ first start now read here. spec.IsTaken first.separator read here };
 
-    /// A piece ends the run where it ends the first row, or where the row can't be taken.
+    /// A piece ends the run if it ends the first row, or if the row can't be taken.
     ghost stopped = { λ first start now read here result. spec.StopsPieces first.separator read here.first result };
 
-    /// The reader's end ends the first row, or it can't be taken.
+    /// The reader's end ends the first row, or the row can't be taken.
     ghost finished = { λ first start now read here result. FinishesText first.separator read here.first result };
 
-    /// Takes the next bytes, and gives the index in the text after the mark at which the first row ends, if they end it.
+    /// Takes the next bytes, and gives the index in the text after the mark at which the first row ends, or None if the
+    /// row goes on. Refused as `FirstRow::take_piece` is.
     fn take_piece(
         &mut self,
         _alloc: Global,

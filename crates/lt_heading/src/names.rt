@@ -9,10 +9,11 @@ use lt_rows::{Separator, find_field, text_in};
 use lt_words::escaped;
 use std::alloc::{AllocError, Global};
 
-/// The most names of a heading that are listed where one is not found, so that the line stays short.
+/// The most names of a heading that are listed if the name that is looked for is not found, so that the line stays
+/// short.
 const MOST_LISTED: usize = 64;
 
-/// The most bytes of a name that are shown, for the same reason.
+/// The most bytes of a name that are shown, so that the line stays short.
 const MOST_SHOWN: usize = 64;
 
 /// Where a name stands among others.
@@ -20,15 +21,15 @@ const MOST_SHOWN: usize = 64;
 pub(crate) enum Found {
     /// It is none of them.
     Missing,
-    /// It is the one of this number, counted from 1, alone.
+    /// It is only the one with this number, counted from 1.
     Only(usize),
     /// It is more than one of them.
     Repeated,
 }
 
 impl Found {
-    /// Where the name stands after a further name, which has this number, counted from 1; `is_name` says whether it is
-    /// the one that is looked for.
+    /// Where the name stands among the names so far and a further one, which has this number, counted from 1. `is_name`
+    /// says whether the further name is the one that is looked for.
     fn with(self, number: usize, is_name: bool) -> Found
         ensures { result ≡ found_then self number is_name }
     {
@@ -48,8 +49,8 @@ pub(crate) struct Looked {
     pub(crate) listed: String,
 }
 
-/// The text between the quotes of a field, with each doubled quote as one (RFC 4180, 2). The `false` in the clause says
-/// that no quote comes before the text.
+/// The text between the quotes of a field, with each doubled quote as one (RFC 4180, 2): `a""b` becomes `a"b`. The
+/// `false` in the clause says that no quote comes before the text. Refused where memory runs out.
 fn undoubled(alloc: Global, text: &[u8]) -> Result<Vec<u8>, AllocError>
     ensures { IfOk result (λ name. name.items ≡ spec.undoubled false text.now) }
 {
@@ -66,7 +67,8 @@ fn undoubled(alloc: Global, text: &[u8]) -> Result<Vec<u8>, AllocError>
     Ok(name)
 }
 
-/// The name of a column, by its field in the heading: the text of the field, with each doubled quote as one if it is quoted.
+/// The name of a column, by its field in the heading: the text of the field, with each doubled quote as one if the
+/// field is quoted. Refused where memory runs out.
 fn name_of(alloc: Global, separator: Separator, field: &[u8]) -> Result<Vec<u8>, AllocError>
     ensures { IfOk result (λ name. IsNameOf separator field.now name.items) }
 {
@@ -79,7 +81,7 @@ fn name_of(alloc: Global, separator: Separator, field: &[u8]) -> Result<Vec<u8>,
     Ok(name)
 }
 
-/// The front of a name that is shown.
+/// The part of a name that is shown: its first 64 bytes, or all if it has fewer.
 fn shown_front(name: &[u8]) -> &[u8]
     ensures { result.now ≡ take spec.most_shown name.now }
 {
@@ -93,8 +95,8 @@ fn dots_after(name: &[u8]) -> &'static str
     if name.len() > MOST_SHOWN { ".." } else { "" }
 }
 
-/// Appends a space and a name between quotes, with escapes for what can't be printed as it is. Of a long name its front
-/// is appended, and two dots after the quotes.
+/// Appends to `shown` a space and a name between quotes, with escapes for what can't be printed as it is. Of a name of
+/// more than 64 bytes only the first 64 are appended, with two dots after the quotes.
 pub(crate) fn append_shown(shown: &mut String, alloc: Global, name: &[u8]) -> Result<(), AllocError>
     ensures { OnOk result (string_bytes shown.new ≡ string_bytes shown.old ++ shown_name name.now) }
 {
@@ -121,8 +123,8 @@ fn append_listed(
     Ok(())
 }
 
-/// What was found of a name among `count` names. `listed` are the first of them, and the list then says how many more there
-/// are.
+/// What was found of a name among `count` names. `listed` is the list of the first 64 of them. If there are more, their
+/// number is added to it, for example ` and 3 more`. Refused where memory runs out.
 fn looked_among(
     alloc: Global,
     found: Found,
@@ -138,7 +140,8 @@ fn looked_among(
     Ok(Looked { found, listed })
 }
 
-/// Looks a name up among the names of the columns in a heading: `row`, without the carriage return that may end it.
+/// Looks a name up among the names of the columns in a heading. `row` is the heading without the carriage return that
+/// may end it. Refused where memory runs out.
 fn look_up_in_row(
     alloc: Global,
     separator: Separator,
@@ -175,8 +178,8 @@ fn without_return(row: &[u8]) -> &[u8]
     }
 }
 
-/// Looks a name up among the names of the columns in a heading. Without a heading it is missing. In the clause
-/// `heading.entry` is the parameter as it came in.
+/// Looks a name up among the names of the columns in a heading. If there is no heading, the name is missing. Refused
+/// where memory runs out. In the clause `heading.entry` is the parameter as it came in.
 pub(crate) fn look_up(
     alloc: Global,
     separator: Separator,

@@ -1,4 +1,5 @@
--- What is answered at the end of the bytes, or where a row or a record is too long.
+-- Lemmas for `Answering::finish` and `stop_long`: what was answered, written and tallied of the bytes that were read
+-- once they end, also within quotes, or where a row or a record is too long.
 use Rattle.std.proofs.Common.{Result, Ok, Err, OnOk, ◌≡◌, ◌≤◌, ◌<◌, ◌+◌, ◌++◌, ◌∷◌, ◌∙◌, ℕ, List, [], true, false}
 use Rattle.std.proofs.Common.{length, sym, ap, refl, arith, append_assoc, append-nil, inl, inr, length-append, ◌==◌}
 use Rattle.std.proofs.Common.{◌-◌}
@@ -114,7 +115,8 @@ last_answered T old new (Ok _) some closed taken none =
     (sym (last_ended T bytes out old t some closed) ∙ units_taken T (bytes ++ 10 ∷ []) out new after none)
 last_answered T old new (Err _) some closed taken none = tt
 
--- once the last of the waiting answers, `part`, is written, all that is owed for the bytes was written
+-- if all lines of the bytes are answered, then once the waiting answers, `part`, are written, all that is owed for the
+-- bytes was written, counted and tallied
 pub owed_all : (T : Terms) (bytes out part : List ℕ) (state new : Answering) → IsAnswered T bytes out state → KeepsLine state new
     → state.owed.items ≡ part ++ new.owed.items → new.owed.items ≡ [] → OwesAll T bytes (out ++ part) new.counts new.tallies
 owed_all T bytes out part state new a same wrote none = record {
@@ -171,8 +173,8 @@ owed_to_last_feed T read written state t none = record {
   all = sym (append-nil written) ∙ ap (λ (l : List ℕ). written ++ l) (sym none) ∙ t.all;
 }
 
--- where a quote is open at the end of the bytes, the unfinished record begins in the line after those line feeds that
--- are not kept
+-- where the bytes end within quotes, what is owed before the unfinished record was written and tallied, and the record
+-- begins in the line after the line feeds that are not kept, whose number is `line`
 pub ends_in_quotes : (T : Terms) (bytes out : List ℕ) (state : Answering) (line : ℕ) → IsTaken T bytes out state
     → state.owed.items ≡ [] → is_quoted state.place ≡ true
     → line ≡ (state.feeds - feeds_in state.kept.items) + 1 → (e : EndsInQuotes T bytes out line)

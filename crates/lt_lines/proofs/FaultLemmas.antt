@@ -1,4 +1,5 @@
--- What is before the first byte of some kind, as the name of a fault is before the first space.
+-- Lemmas for `fault_in` and `told_in`, which read the name of a fault off an answer: it is what is before the first
+-- space there, behind a number of bytes that are left out.
 use Rattle.std.proofs.Common.{◌≡◌, ◌-◌, ◌++◌, ◌∙◌, ℕ, List, Some, None, cond, drop, length, min, nat_lt, take, take_all, sym, ap, inl, inr}
 use Rattle.std.specs.List.{before_first, position, position_or_len}
 use Rattle.std.specs.Prelude.{Bool}
@@ -25,8 +26,8 @@ before_none p text none = elim (cases_Bool (nat_lt (position_or_len p text) (len
   | inr far ↦ sym (take_all (position_or_len p text) text (ltb-false _ _ far))
 ]
 
--- the slice of a text without its first `count` bytes; it begins at `least`, which is the text's end if the text is
--- shorter
+-- a text without its first `count` bytes is the slice from `least` on, which is `count`, or the text's end if the text
+-- is shorter
 pub after_front : (text : List ℕ) (count least : ℕ) → least ≡ min count (length text)
     → take (length text - least) (drop least text) ≡ drop count text
 after_front text count least is = take_rest text least ∙ ap (λ n. drop n text) is ∙ drop_min count text

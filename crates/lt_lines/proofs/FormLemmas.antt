@@ -1,4 +1,5 @@
--- Lines by their form, and line feeds.
+-- Lemmas on the lines of a text by their form (tags, rows of TSV or records of CSV), which most other files use: which
+-- lines a text has, where it is within quotes, and how many line feeds it has.
 use Rattle.std.proofs.Common.{◌≡◌, ◌≢◌, ◌≤◌, ◌<◌, ◌+◌, ◌++◌, ◌∷◌, ◌∙◌, ℕ, List, [], true, false, length, ap, refl}
 use Rattle.std.proofs.Common.{arith, append_assoc, length-append, cond, ◌==◌, ne_eqb}
 use Rattle.std.specs.List.{AllByRecursion}
@@ -15,8 +16,8 @@ use Rattle.lt_lines.specs.declared.forms.LineForm.{LineForm}
 use Rattle.lt_rows.proofs.RowLemmas.{free-append, free_of_none, place_after_feed, place_at-append, records_from-ended, records_from-last}
 use Rattle.lt_lines.specs.declared.forms.LineForm.TheVariants as forms
 
--- what is true of the empty text in each form: it has no lines, is short, ends outside of quotes, and nothing of it is
--- kept
+-- the empty text has no lines, no line feed ends a line in it, it is short, it ends outside of quotes, and nothing of
+-- it is kept
 pub record HasNone (form : LineForm) : Type 0 where
   pub short : IsShort form []
   pub units : units_of form [] ≡ []
@@ -24,7 +25,7 @@ pub record HasNone (form : LineForm) : Type 0 where
   pub closed : place_of form [] ≡ places.Fresh
   pub kept : kept_of form [] ≡ []
 
--- the empty text has no lines, is short, ends outside of quotes, and nothing of it is kept, in every form
+-- what `HasNone` says of the empty text is true in every form
 pub of_none : (form : LineForm) → HasNone form
 of_none forms.Tag = record { short = tt; units = refl; unit = λ k d lt. absurd (omega (arith, lt)); closed = refl; kept = refl }
 of_none (forms.Csv row delimiter) = record { short = omega arith; units = refl; unit = tt; closed = refl; kept = refl }
@@ -52,7 +53,8 @@ unit-append (forms.Csv row delimiter) last part h one = free-append delimiter 10
     (free_of_none delimiter 10 (place_at delimiter places.Fresh last) part one)
 unit-append form last part h one = All-append (λ (byte : ℕ). byte ≢ 10) last part h one
 
--- the place at the end of a text that goes on with `part`, by the place at the end of its front, `last`
+-- the place at the end of a text that goes on with `part` is the one to which `part` leads from the place at the end of
+-- the front, `last`
 pub place_of-append : (form : LineForm) (last part : List ℕ) → place_of form (last ++ part) ≡ place_then form (place_of form last) part
 place_of-append (forms.Csv row delimiter) last part = place_at-append delimiter places.Fresh last part
 place_of-append form last part = refl
@@ -81,7 +83,7 @@ ended_first form [] more h = refl
 ended_first form (line ∷ lines) more h =
     rw (append_assoc line (10 ∷ ended lines) more, units-ended form line (ended lines ++ more) h.0, ended_first form lines more h.1) refl
 
--- whole lines leave no quote open, so the place at the end of a text depends on its last line alone
+-- whole lines leave no quote open, so the place at the end of a text depends only on its last line
 pub place_of_ended : (form : LineForm) (lines : List (List ℕ)) (last : List ℕ) → AllByRecursion (IsWhole form) lines
     → place_of form (ended lines ++ last) ≡ place_of form last
 place_of_ended form [] last h = refl
@@ -92,7 +94,8 @@ place_of_ended (forms.Csv row delimiter) (line ∷ lines) last h =
     (place_at delimiter places.Fresh line) h.0.closed) ∙ place_of_ended (forms.Csv row delimiter) lines last h.1
 place_of_ended form lines last h = refl
 
--- the bytes of lines, each with its line feed (10), where one line more follows
+-- the bytes of lines and one line more, each with its line feed (10), are those of the lines, and then that line and
+-- its line feed
 pub ended-append : (lines : List (List ℕ)) (line : List ℕ) → ended (lines ++ line ∷ []) ≡ ended lines ++ (line ++ 10 ∷ [])
 ended-append [] line = refl
 ended-append (l ∷ lines) line = rw (ended-append lines line, append_assoc l (10 ∷ ended lines) (line ++ 10 ∷ [])) refl

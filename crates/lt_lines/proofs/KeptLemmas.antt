@@ -1,4 +1,5 @@
--- What is counted of a line of which a front is kept: of a long tag the front is enough for the tallies.
+-- Lemmas for `answer_line`, which counts a refused line by what is kept of it. Of a long tag only a front, its first
+-- 1,027 bytes, is kept, which is enough: the tallies show only its first 64.
 use Rattle.std.proofs.Common.{◌≡◌, ◌<◌, ◌-◌, ◌++◌, ◌∷◌, ◌∙◌, inl, inr, ℕ, List, [], Bool, true, false, length, take}
 use Rattle.std.proofs.Common.{sym, ap, refl, subst, arith, if◌then◌else◌, take_all, length-take-le}
 use Rattle.std.proofs.lemmas.Bool.Decides.{leb_tells}
@@ -21,7 +22,7 @@ content_front line long =
       | false ↦ refl
     ]
 
--- of a line and of its kept front the same is shown: what is kept is longer than what is shown
+-- of a line and of its kept front the same bytes are shown, since more bytes are kept than are shown
 front_kept : (line : List ℕ) → take most_shown (content_of (take longest_kept line)) ≡ take most_shown (content_of line)
 front_kept line = elim (leb_tells (length line) longest_kept) [
   | inl short ↦ ap (λ (l : List ℕ). take most_shown (content_of l)) (take_all longest_kept line short.1)
@@ -30,7 +31,7 @@ front_kept line = elim (leb_tells (length line) longest_kept) [
       ∙ take-take most_shown longest_kept line (omega arith) ∙ sym (content_front line (omega (arith, long.1)))
 ]
 
--- a line that is counted by what is kept of it is counted as by all of it
+-- a line that is counted by what is kept of it is counted just as if all of it had been kept
 counts_for_kept : (form : LineForm) (number : ℕ) (line bytes : List ℕ) (refused : Bool) (old new : List Tally)
     → CountsIf form number (kept_of form line) bytes refused old new → CountsIf form number line bytes refused old new
 counts_for_kept form number line bytes false old new same = same
@@ -49,8 +50,9 @@ counts_for_kept forms.Tag number line bytes true old new c =
     }
 counts_for_kept form number line bytes true old new c = c
 
--- A line is counted as by all of it where it is counted by what is kept of it. `last` is its front, of which `before`
--- was kept, and `part` its last bytes, with which `kept` is kept. Where nothing was kept, the line is `part` alone.
+-- A line that comes in pieces and is counted by what is kept of it is counted just as if all of it had been kept.
+-- `last` is the front of the line, of which `before` was kept, and `part` its last bytes, with which `kept` is kept.
+-- Where nothing was kept, the line is only `part`.
 pub counts_line : (form : LineForm) (number : ℕ) (last part bytes before kept : List ℕ) (refused : Bool) (old new : List
     Tally) → before ≡ kept_of form last → KeepsPart form before part kept
     → CountsIf form number (line_at kept part) bytes refused old new → CountsIf form number (last ++ part) bytes refused old new

@@ -1,4 +1,4 @@
--- Lemmas on answers to lines.
+-- Lemmas on answering the lines of a reader.
 mod FormLemmas
 pub mod PartLemmas
 pub mod LookLemmas

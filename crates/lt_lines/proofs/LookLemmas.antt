@@ -1,4 +1,6 @@
--- Lines of rows that are looked at before they are answered.
+-- Lemmas for `line_looks`, where a row is looked at before it is answered. A look at the row without the carriage
+-- return that may end its line tells whether the line ends within quotes. If a piece lacks carriage returns or quotes,
+-- its lines do.
 use Rattle.std.proofs.Common.{refl, ◌≡◌, ◌≢◌, ◌≤◌, ◌<◌, ◌+◌, ◌-◌, ◌&&◌, ◌++◌, [], ◌∷◌, ◌∙◌, ℕ, Bool, true, false, List}
 use Rattle.std.proofs.Common.{Option, Some, None, MatchOption, inl, inr, length, sym, ap, arith, subst, take, drop}
 use Rattle.std.proofs.Common.{if◌then◌else◌, append_assoc, length-append}
@@ -26,7 +28,8 @@ use Rattle.lt_lines.specs.declared.forms.LineForm.TheVariants as forms
 use Rattle.lt_lines.proofs.FormLemmas.{of_none}
 use Rattle.lt_lines.proofs.PartLemmas.{nothing_kept}
 
--- a line that is the first `count` bytes of a text has for its content the first bytes of the same text
+-- the content of a line is the line without the carriage return that may end it; if the line is the first `count` bytes
+-- of a text, its content is the first bytes of this text too
 pub content_front : (text : List ℕ) (count : ℕ) → count ≤ length text
     → take (length (content_of (take count text))) text ≡ content_of (take count text)
 content_front text count le =
@@ -68,7 +71,7 @@ return_quoted d places.Fresh = outside_closed d 13
 return_quoted d places.Plain = outside_closed d 13
 return_quoted d places.Quoted = refl
 
--- a line and its content end both within quotes, or both outside; `d` is the delimiter
+-- a line and its content both end within quotes, or both end outside; `d` is the delimiter
 content_quoted : (d : ℕ) (line : List ℕ) → is_quoted (place_at d places.Fresh (content_of line)) ≡ is_quoted (place_at d places.Fresh line)
 content_quoted d line = elim (cases_Bool (ends_with_byte 13 line)) [
   | inl e ↦

@@ -1,4 +1,6 @@
--- What is owed for a text that may begin with a byte order mark.
+-- Lemmas on a text that may begin with a byte order mark, for `marked` and `runs`: how its bytes are split into the
+-- mark and the text after it, that what was written is the mark and then what is owed, also while the first bytes are
+-- still kept, and how a piece ends the run.
 use Rattle.std.proofs.Common.{◌≡◌, ◌<◌, ◌+◌, ◌++◌, ◌∙◌, ℕ, List, [], length, sym, ap, refl, subst, arith, append-nil}
 use Rattle.std.proofs.Common.{length-append, inl, inr}
 use Rattle.std.proofs.lemmas.List.{nil_from_length, take_all}
@@ -60,7 +62,7 @@ splits_some forms.Tag bytes = ([], bytes, (refl, refl))
 splits_some (forms.Row row) bytes = split_of bytes
 splits_some (forms.Csv row delimiter) bytes = split_of bytes
 
--- where nothing was written, that is a front of what is owed
+-- if nothing was written, this is a front of what is owed, whatever the bytes are
 pub begun_none : (T : Terms) (bytes : List ℕ) → IsBegunText T bytes []
 begun_none T bytes =
     let s = splits_some T.form bytes in
@@ -210,13 +212,16 @@ text_room T bytes written state count (inr k) most =
 
 -- ---- the ways in which a run ends
 
--- a write or memory failed after `between`, and so after `before`, from which on no write had failed
+-- if a write failed or memory ran out after `between`, and no write had failed from `before` to `between`, then a write
+-- failed or memory ran out after `before`
 pub stop_from : {W : Type 0} (before between after : Device W) (f : ToolFault)
     → failures_of between ≡ failures_of before → IsStop between after f → IsStop before after f
 stop_from before between after f same (inl wrote) = inl (wrote.0, failed_from before between after same wrote.1)
 stop_from before between after f same (inr lacks) = inr (lacks.0, lacks.1 ∙ same)
 
--- a piece of the text after the mark ends the run
+-- If a piece ends the answering of the lines after the mark by the fault `f`, it ends the run over the text by this
+-- fault. `out` was written after the mark before the piece, and `wrote` for it; no write had failed from `before` to
+-- `between`.
 pub piece_stopped : {W : Type 0} (T : Terms) (bytes text out piece wrote mark : List ℕ) (state new : Answering) (before
     between after : Device W) (f : ToolFault) → SplitsText T.form bytes mark (text ++ piece)
     → (MayHaveMark T.form → IsWide bytes → ⊥) → IsTaken T text out state → failures_of between ≡ failures_of before

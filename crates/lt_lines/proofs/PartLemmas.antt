@@ -1,4 +1,5 @@
--- What is kept of a line that comes in pieces, and rows and records that are too long.
+-- Lemmas on what is kept of a line that comes in pieces: it is what is to be kept of the line so far, and it tells
+-- whether a row or a record is too long.
 use Rattle.std.proofs.Common.{◌≡◌, ◌++◌, ◌∷◌, ◌∙◌, ℕ, List, [], true, false, length, sym, ap, subst, arith, append-nil}
 use Rattle.std.proofs.Common.{length-append, inl, inr}
 use Rattle.std.specs.List.{AllByRecursion}

@@ -1,4 +1,5 @@
--- What the turns of the loop of `Answering::take_piece` over a piece of lines keep.
+-- Lemmas for the loop of `Answering::take_piece`: what is true at each turn of it, that is, after each line of a piece
+-- (`PieceTurn`), stays true in the next one, and gives what is said of the piece where the loop ends or stops.
 use Rattle.std.proofs.Common.{◌≡◌, ◌≤◌, ◌+◌, ◌++◌, ◌∷◌, ◌∙◌, inl, inr, ℕ, List, [], Option, Result, Ok, Err, OnOk}
 use Rattle.std.proofs.Common.{length, take, sym, ap, refl, subst, arith, append_assoc, append-nil, length-append}
 use Rattle.std.specs.Io.KnownBytes.{Appends}
@@ -17,8 +18,10 @@ use Rattle.lt_stream.proofs.DeviceLemmas.{failed_from}
 use Rattle.lt_lines.proofs.EndLemmas.{too_long}
 use Rattle.lt_lines.proofs.TakenLemmas.{begun_front, taken_part, taken_write}
 
--- the turns over a piece took its front, and `rest` is left: `old` and `before` are the state and the output at its
--- beginning, `now` and `after` those after the last turn
+-- The turns over a piece took its front and wrote `written`, no write failed, and `rest` is left. A state that was
+-- right before the piece is right with the front and `written` too (`taken`), and no more lines and line feeds were
+-- counted than bytes were taken. `old` and `before` are the state and the output before the piece, `now` and `after`
+-- those after the last turn.
 pub record PieceTurn {W : Type 0} (T : Terms) (contents : W → Option (List ℕ)) (piece rest : List ℕ)
     (old now : Answering) (before after : Device W) : Type 0 where
   pub front : List ℕ
@@ -31,11 +34,11 @@ pub record PieceTurn {W : Type 0} (T : Terms) (contents : W → Option (List ℕ
   pub feeds : now.feeds + length rest ≤ old.feeds + length piece
   pub refused : now.counts.refused ≤ now.counts.lines
 
--- a further turn; `now` and `between` are the state and the output before it
+-- a further turn, by what happens in it; `now` and `between` are the state and the output before it
 module _ {W : Type 0} (T : Terms) (contents : W → Option (List ℕ)) (piece rest : List ℕ) (old now : Answering) (before between : Device W)
     (t : PieceTurn T contents piece rest old now before between) where
-  -- the next line of the piece and its line feed (10) were taken; `after` is what follows them, and `mid` the state
-  -- then
+  -- if the next line of the piece and its line feed (10) were taken, `after`, what follows them, is left; `mid` is the
+  -- state then
   pub turn_line : (line after : List ℕ) (mid : Answering) → IsOneLine line × (rest ≡ line ++ 10 ∷ after)
       → (IsLongBy T.form (length now.kept.items) (length line) → ⊥)
       → ((bytes out : List ℕ) → IsOneLine (take (length line) rest)
@@ -63,7 +66,7 @@ module _ {W : Type 0} (T : Terms) (contents : W → Option (List ℕ)) (piece re
         refused = counted.refused;
       }
 
-  -- some of the waiting answers were written
+  -- if some of the waiting answers were written, the same rest is left
   pub turn_written : (new : Answering) (last : Device W) → WritesOwed contents now new between last (Ok tt)
       → PieceTurn T contents piece rest old new before last
   turn_written new last w = record {
@@ -79,7 +82,8 @@ module _ {W : Type 0} (T : Terms) (contents : W → Option (List ℕ)) (piece re
     refused = rw w.same.counts t.refused;
   }
 
-  -- memory ran out, or a write failed that wrote a front of the waiting answers, `part`
+  -- if memory ran out, or a write failed that wrote a front of the waiting answers, `part`, the piece ends by this
+  -- fault
   pub turn_stops : (new : Answering) (last : Device W) (f : ToolFault) (part : List ℕ)
       → Appends (contents (inner_of between)) (contents (inner_of last)) part → IsStop before last f
       → IsFrontOf part now.owed.items → TakesPiece T contents piece old new before last (Err f)
@@ -95,13 +99,14 @@ module _ {W : Type 0} (T : Terms) (contents : W → Option (List ℕ)) (piece re
     );
   }
 
-  -- a write of waiting answers failed
+  -- if a write of waiting answers failed, the piece ends by this fault
   pub turn_fails : (new : Answering) (last : Device W) (f : ToolFault)
       → WritesOwed contents now new between last (Err f) → TakesPiece T contents piece old new before last (Err f)
   turn_fails new last f w = turn_stops new last f w.written w.appends
       (inl (w.stopped.0, failed_from before between last t.failures w.stopped.1)) w.stopped.2
 
-  -- a row or a record is too long with its next bytes, `part`; `more` is what follows them
+  -- if a row or a record is too long with its next bytes, `part`, the piece ends by the fault of that; `more` is what
+  -- follows these bytes
   pub turn_long : (new : Answering) (last : Device W) (f : ToolFault) (part more : List ℕ) → IsOneLine part
       → rest ≡ part ++ more → IsLongBy T.form (length now.kept.items) (length part)
       → StopsLong T.form contents now new between last f → TakesPiece T contents piece old new before last (Err f)
@@ -129,7 +134,7 @@ module _ {W : Type 0} (T : Terms) (contents : W → Option (List ℕ)) (piece re
     }
   ]
 
-  -- the rest of the piece, which has no line feed, is kept
+  -- if the rest of the piece, which has no line feed, is kept, nothing is left
   pub turn_kept : (mid : Answering) → IsOneLine rest → (IsLongBy T.form (length now.kept.items) (length rest) → ⊥)
       → mid.kept.items ≡ now.kept.items ++ part_kept T.form (length now.kept.items) rest
       → mid.place ≡ place_then T.form now.place rest → mid.feeds ≡ now.feeds → mid.owed.items ≡ now.owed.items
@@ -149,7 +154,8 @@ module _ {W : Type 0} (T : Terms) (contents : W → Option (List ℕ)) (piece re
     refused = rw counts t.refused;
   }
 
--- after the last turn all waiting answers are written, and the piece is taken; or the write fails
+-- if all waiting answers are written after the last turn, the piece is taken; if the write fails, the piece ends by
+-- this fault
 pub turn_last : {W : Type 0} (T : Terms) (contents : W → Option (List ℕ)) (piece : List ℕ) (old mid new : Answering)
     (before between last : Device W) (r : Result (Unit {0}) ToolFault)
     → PieceTurn T contents piece [] old mid before between → WritesOwed contents mid new between last r

@@ -1,4 +1,4 @@
--- What is owed for a row.
+-- Lemmas for `answer_rows`: the parts that it appends for a row are together the answer that is owed for the row.
 use Rattle.std.proofs.Common.{refl, ◌≡◌, ◌≤◌, ◌-◌, ◌++◌, ◌∷◌, ◌∙◌, [], ℕ, Bool, false, true, List, inl, inr, ap, arith}
 use Rattle.std.proofs.Common.{append_assoc, codes, drop, length, subst, sym, take, take-append-drop}
 use Rattle.std.proofs.lemmas.List.{drop-drop, drop-take, take_rest, take-take}
@@ -127,7 +127,7 @@ row_kept S G row line front field after quotes text old new refused at is_text n
 -- the canonical text too (if there is one), and `new` those with all of this row's answer
 module _ (S : Separator) (G : Ground) (line text old fronted filled new : List ℕ)
     (first : fronted ≡ (old ++ content_of line) ++ separator S ∷ []) where
-  -- the text has a canonical text: that and an empty field are added
+  -- if the text has a canonical text, and that and an empty field are added, this is the answer
   pub kept_answered : AppendsCanonicalText G.entries (registered_text G.codes text) fronted filled
       → new ≡ filled ++ row_line S [] [] line → AppendsKept S G text line old new false
   kept_answered a last = record {
@@ -137,7 +137,7 @@ module _ (S : Separator) (G : Ground) (line text old fronted filled new : List �
     owed = inl (a.is_canonical, refl, refl);
   }
 
-  -- the text is refused: an empty field and why are added
+  -- if the text is refused, and an empty field and why are added, this is the answer
   pub kept_refused : (refusal : TextRefusal) → IsTextRefusal G.entries (registered_text G.codes text) refusal
       → filled ≡ fronted → EndsRefused S refusal [] line filled new → AppendsKept S G text line old new true
   kept_refused refusal is same e = record {
@@ -184,7 +184,7 @@ module _ (S : Separator) (G : Ground) (row : RowForm) (line old fronted filled n
   abbrev text : List ℕ
   text = take (place.end - place.start) (drop place.start (content_of line))
 
-  -- the text has a canonical text, which replaces it
+  -- if the text has a canonical text, which replaces it, this is the answer
   pub found_answered : row.is_kept ≡ false → fronted ≡ old ++ take place.start (content_of line)
       → AppendsCanonicalText G.entries (registered_text G.codes text) fronted filled
       → new ≡ filled ++ row_line S (drop place.end (content_of line)) [] line → AppendsRowReply S G row line old new false
@@ -194,7 +194,7 @@ module _ (S : Separator) (G : Ground) (row : RowForm) (line old fronted filled n
       (subst (λ t. AppendsCanonicalText G.entries (registered_text G.codes t) fronted filled) h.text_is a)
       (last ∙ ap (λ l. filled ++ row_line S l [] line) h.after_is)
 
-  -- the text is refused, and stays as it was
+  -- if the text is refused, and stays as it was, with a last field that says why, this is the answer
   pub found_refused : row.is_kept ≡ false → fronted ≡ old ++ take place.start (content_of line)
       → (refusal : TextRefusal) → IsTextRefusal G.entries (registered_text G.codes text) refusal → filled ≡ fronted
       → EndsRefused S refusal (drop place.start (content_of line)) line filled new → AppendsRowReply S G row line old new true
@@ -205,7 +205,7 @@ module _ (S : Separator) (G : Ground) (row : RowForm) (line old fronted filled n
       (subst (λ t. IsTextRefusal G.entries (registered_text G.codes t) refusal) h.text_is is) same
       (record { told = e.told; is_told = e.is_told; grown = e.grown ∙ ap (λ l. filled ++ row_line S l e.told line) rest })
 
-  -- the row is kept, and the answer to the text is added
+  -- if the row is kept, and the answer to its text is added, this is the answer
   pub found_kept : (refused : Bool) → row.is_kept ≡ true → AppendsKept S G text line old new refused
       → AppendsRowReply S G row line old new refused
   found_kept refused kept a =
@@ -214,7 +214,7 @@ module _ (S : Separator) (G : Ground) (row : RowForm) (line old fronted filled n
 
 -- ---- a row without its field
 
--- the answer to a row with a carriage return outside of quotes was appended
+-- a row with a carriage return outside of quotes is answered by the row and a last field `BadReturn`
 pub row_returns : (S : Separator) (G : Ground) (row : RowForm) (line old new : List ℕ) → HasReturn S (content_of line)
     → new ≡ old ++ refused_line row.is_kept S line (codes "BadReturn") → AppendsRowReply S G row line old new true
 row_returns S G row line old new returns grown = record {
@@ -223,7 +223,7 @@ row_returns S G row line old new returns grown = record {
   owed = inl (record { returns = returns; line_is = refl; refused = refl });
 }
 
--- the answer to a row that has no field of that number was appended
+-- a row that has no field after `before` others is answered by the row and a last field `NoColumn`
 pub row_lacks : (S : Separator) (G : Ground) (row : RowForm) (line old new : List ℕ)
     → (HasReturn S (content_of line) → ⊥) × HasFewer S row.before (content_of line)
     → new ≡ old ++ refused_line row.is_kept S line (codes "NoColumn") → AppendsRowReply S G row line old new true

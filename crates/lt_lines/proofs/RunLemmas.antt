@@ -1,4 +1,5 @@
--- What holds of a text while it is read, and how a run over lines ends.
+-- Lemmas for `run_tallied`: what is true of a run while it reads a text (`IsReading`) stays true from piece to piece,
+-- and a run over pieces, however it ends, is a run over the lines (`runs_lines`).
 use Rattle.std.proofs.Common.{◌≡◌, ◌+◌, ◌++◌, ◌∙◌, inl, inr, ℕ, List, [], Option, Result, Ok, Err, length, sym, ap}
 use Rattle.std.proofs.Common.{refl, arith, append-nil, ◌<◌, ◌^◌}
 use Rattle.std.specs.Io.KnownBytes.{Appends, IsAtEnd}
@@ -68,7 +69,7 @@ begun_after T read written line tallies a =
       front = inr (a.more, a.written_is, begun_too_long T a.text a.more line a.holds.0);
     }
 
--- a run ends by the fault of its form where a row or a record is too long and what is owed before it was written
+-- a run in which a row or a record is too long, and what is owed before it was written, ends by the fault of its form
 ends_long : {I O : Type 0} (T : Terms) (remaining : I → Option (List ℕ)) (input input' : Device I)
     (output output' : Device O) (reads : ℕ) (read written : List ℕ) (tallies : List Tally) (line : ℕ)
     → AfterMark T (TalliesTooLong T line tallies) read written
@@ -85,7 +86,7 @@ ends_long T remaining input input' output output' reads read written tallies lin
 
 -- `contents` gives what was written to an output, and `start` is the output at the beginning of the run
 module _ {W : Type 0} (T : Terms) (contents : W → Option (List ℕ)) (start : Device W) where
-  -- at its beginning a run has read and written nothing
+  -- at its beginning a run is reading the text, of which it has read nothing, and has written nothing
   pub reading_none : (state : Marked) → IsNew T state → IsReading T contents start start [] state
   reading_none state new = record { written = []; appends = Appends-nil _; same = refl; taken = new.taken; emptied = new.emptied }
 
@@ -98,7 +99,7 @@ module _ {W : Type 0} (T : Terms) (contents : W → Option (List ℕ)) (start : 
   -- before it, `new` and `after` those after it, and `U` is the terms of the state, which stay the same
   module _ (before after : Device W) (read piece : List ℕ) (old new : Marked)
       (t : IsReading T contents start before read old) (U : Terms) (same : U ≡ T) where
-    -- a piece that was taken is read after the bytes before it
+    -- after a piece that was taken the run is still reading the text, with this piece
     pub reading_more : TakesText U contents piece old new before after (Ok tt) → IsReading T contents start after (read ++ piece) new
     reading_more takes =
         let p = rw same at takes in
@@ -117,7 +118,7 @@ module _ {W : Type 0} (T : Terms) (contents : W → Option (List ℕ)) (start : 
     ends_from bytes written tallies f (inr (inl wide)) = inr (inl (wide.0, wide.1 ∙ t.same, wide.2, wide.3, wide.4, wide.5))
     ends_from bytes written tallies f (inr (inr long)) = inr (inr (long.0, long.1, long.2 ∙ t.same, long.3))
 
-    -- a piece that ends by a fault ends the run by it
+    -- a piece that gives a fault ends the run by this fault
     pub reading_stops : (f : ToolFault) → TakesText U contents piece old new before after (Err f)
         → StopsReading T contents start after (read ++ piece) new.answering.tallies (Err f)
     reading_stops f takes =
@@ -166,9 +167,11 @@ module _ {I W A : Type 0} (T : Terms) (U : A → Terms) (text : A → Marked) (r
   abbrev Finished : EndFact (Device W) A Counts
   Finished start now read state r = EndsReading T contents start now read (text state).answering.tallies r
 
-  -- the run gave the result `r`; `p` says what it read and how it ended
+  -- The run gave the result `r`, and `p` says what it read and how it ended. Each lemma below says of one way to end
+  -- that such a run is a run over the lines of the text (`RunsLines`).
   module _ (r : Result Counts ToolFault) (p : RunsPieces Taken Stopped Finished remaining input input' output output' here r) where
-    -- what a run did, from what it read and wrote and how it ended; a read or a write that fails is its fault
+    -- a run that wrote a front of what is owed, ended in a way that is allowed, and gives a failed read or write as its
+    -- fault
     run_over : (written : List ℕ) → Appends (contents (inner_of output)) (contents (inner_of output')) written
         → IsBegunText T p.read written
         → EndsAs T remaining input input' output output' p.reads p.read written (text here).answering.tallies r
@@ -189,7 +192,7 @@ module _ {I W A : Type 0} (T : Terms) (U : A → Terms) (text : A → Marked) (r
       write_rises = write_rises;
     }
 
-    -- a run that ends between two pieces, as a read failed, all reads were made, or memory for a piece ran out
+    -- a run that ended between two pieces, since a read failed, all reads were made, or memory for a piece ran out
     run_taken : (t : IsReading T contents output output' p.read (text here))
         → EndsAs T remaining input input' output output' p.reads p.read t.written (text here).answering.tallies r
         → (failures_of input < failures_of input' → r ≡ Err faults.Read)
@@ -228,7 +231,7 @@ module _ {I W A : Type 0} (T : Terms) (U : A → Terms) (text : A → Marked) (r
         → RunsLines T remaining contents input input' output output' (text here).answering.tallies r
     run_memory s = run_taken s.taken.1 (rw s.fault tt) (λ lt. absurd (omega (arith, lt, s.same)))
 
-    -- a run that ends early: a write or memory failed, the text is UTF-16, or a row or a record is too long
+    -- a run that ended early: a write failed or memory ran out, the text is UTF-16, or a row or a record is too long
     run_stopped : (f : ToolFault) → r ≡ Err f → failures_of input' ≡ failures_of input → (written : List ℕ)
         → Appends (contents (inner_of output)) (contents (inner_of output')) written
         → EndsText T output output' p.read written (text here).answering.tallies f
@@ -263,7 +266,7 @@ module _ {I W A : Type 0} (T : Terms) (U : A → Terms) (text : A → Marked) (r
         (rw fault (inl (record { end = end; ends = q.ends }))) (λ lt. absurd (omega (arith, lt, same)))
         (λ lt. absurd (omega (arith, lt, q.same)))
 
-  -- a run over the pieces of a text is a run over its lines, however it ends
+  -- a run over the pieces of a text is a run over its lines, however it ended
   pub runs_lines : (r : Result Counts ToolFault)
       → RunsPieces Taken Stopped Finished remaining input input' output output' here r
       → RunsLines T remaining contents input input' output output' (text here).answering.tallies r

@@ -1,4 +1,5 @@
--- A run over lines whose form is a tag, without codes, is a run over tags.
+-- Lemmas for `run_lines`: a run of `run_tallied` over lines of the form `Tag`, without codes, is a run over tags, which
+-- TagLines defines without rows, records and tallies.
 use Rattle.std.proofs.Common.{◌≡◌, ◌+◌, ◌++◌, ◌∷◌, ◌∙◌, ◌<◌, ◌==◌, cond, inl, inr, ℕ, zero, suc, List, [], Bool, true}
 use Rattle.std.proofs.Common.{false, Option, Result, Ok, Err, length, map, sym, ap, refl, subst, take, drop}
 use Rattle.std.specs.List.{AllByRecursion, before_first, concat, count_by, position_or_len}
@@ -26,18 +27,18 @@ front_rest zero text = refl
 front_rest (suc n) [] = refl
 front_rest (suc n) (byte ∷ text) = ap (λ (l : List ℕ). byte ∷ l) (front_rest n text)
 
--- the bytes of answers
+-- the bytes of each of the answers
 abbrev bytes_of : List Reply → List (List ℕ)
 bytes_of replies = map (λ (r : Reply). r.bytes) replies
 
--- the bytes of answers, one after another
+-- the bytes of all answers are those of each, one after another
 joined : (replies : List Reply) → bytes_in replies ≡ concat (bytes_of replies)
 joined [] = refl
 joined (r ∷ replies) = ap (λ (l : List ℕ). r.bytes ++ l) (joined replies)
 
 -- `R` is the entries of the registry
 module _ (R : List EntryParts) where
-  -- by what the lines are answered
+  -- the lines are answered by these entries, without codes, as tags
   abbrev T : Terms
   T = terms (record { entries = R; codes = [] }) forms.Tag
 
@@ -51,6 +52,7 @@ module _ (R : List EntryParts) where
         | inr a ↦ inr a.0
       ]
 
+  -- the answers that are owed for lines are the lines that are owed for their texts
   owed_lines : (first : Bool) (lines : List (List ℕ)) (replies : List Reply) → AreRepliesFrom T first lines replies
       → AreOwedLines R lines (bytes_of replies)
   owed_lines first [] [] each = refl
@@ -58,7 +60,7 @@ module _ (R : List EntryParts) where
   owed_lines first (line ∷ lines) [] each = absurd each
   owed_lines first (line ∷ lines) (r ∷ replies) each = (owed_line line r each.0, owed_lines false lines replies each.1)
 
-  -- as many of them are refusals as begin with `! `
+  -- as many of the answers are refusals as begin with `! `
   refused_lines : (first : Bool) (lines : List (List ℕ)) (replies : List Reply) → AreRepliesFrom T first lines replies
       → refused_in replies ≡ count_by is_refusal (bytes_of replies)
   refused_lines first [] [] each = refl
@@ -70,6 +72,7 @@ module _ (R : List EntryParts) where
       ∙ ap (λ (n : ℕ). cond (is_refusal r.bytes) 1 0 + n) (refused_lines false lines replies each.1)
       ∙ sym (sum_by-cons (λ (l : List ℕ). cond (is_refusal l) 1 0) r.bytes (bytes_of replies))
 
+  -- the bytes of the answers that are owed for lines are what is owed for the lines
   owes : (lines : List (List ℕ)) (replies : List Reply) (written : List ℕ) → AreReplies T lines replies
       → written ≡ bytes_in replies → Owes R lines written
   owes lines replies written each all = record {
@@ -78,16 +81,18 @@ module _ (R : List EntryParts) where
     all = all ∙ joined replies;
   }
 
-  -- no mark is looked for before tags
+  -- since no mark is looked for before tags, what is true after the mark is true of all bytes
   unmarked : (P : (text more : List ℕ) → Type 0) (read written : List ℕ) → AfterMark T P read written → P read written
   unmarked P read written a =
       let same : a.more ≡ written = sym (a.written_is ∙ ap (λ (m : List ℕ). m ++ a.more) a.split.0) in
       subst (λ (t : List ℕ). P t written) a.split.1 (subst (λ (m : List ℕ). P a.text m) same a.holds)
 
+  -- whole lines of the form `Tag` have no line feed (10)
   each_line : (lines : List (List ℕ)) → AllByRecursion (IsWhole forms.Tag) lines → AllByRecursion IsOneLine lines
   each_line [] each = tt
   each_line (line ∷ lines) each = (each.0.unit, each_line lines each.1)
 
+  -- what is owed up to the last line feed, of lines of the form `Tag`, is what is owed for tags
   to_last_feed : (tallies : List Tally) (read written : List ℕ) → AfterMark T (TalliesToLastFeed T tallies) read written
       → OwesToLastFeed R read written
   to_last_feed tallies read written a =
@@ -101,6 +106,7 @@ module _ (R : List EntryParts) where
         owes = owes o.lines o.owed written o.each o.all;
       }
 
+  -- a front of what is owed for lines of the form `Tag` is a front of what is owed for tags
   begun : (read written : List ℕ) → IsBegunText T read written → OwesFront R read written
   begun read written b = elim b.front [
     | inl f ↦ record {
@@ -127,6 +133,7 @@ module _ (R : List EntryParts) where
   -- `input` and `output` are the devices before the run, `input'` and `output'` those after it
   module _ {I O : Type 0} (remaining : I → Option (List ℕ)) (input input' : Device I) (output output' : Device O)
       (reads : ℕ) (read written : List ℕ) (tallies : List Tally) where
+    -- a run over lines of the form `Tag` ends in a way in which a run over tags may end
     ends_tags : (r : Result Counts ToolFault) → IsBegunText T read written
         → EndsAs T remaining input input' output output' reads read written tallies r
         → EndsTags R remaining input input' output output' reads read written r
@@ -151,6 +158,7 @@ module _ (R : List EntryParts) where
     ends_tags (Err (faults.BadTsv line)) front is = absurd ((unmarked _ read written is.ends).0.long tt)
     ends_tags (Err faults.Utf16) front is = absurd is.looked
 
+  -- a run over lines of the form `Tag` is a run over tags
   pub runs_tags : {I O : Type 0} (remaining : I → Option (List ℕ)) (contents : O → Option (List ℕ))
       (input input' : Device I) (output output' : Device O) (tallies : List Tally) (r : Result Counts ToolFault)
       → RunsLines T remaining contents input input' output output' tallies r → RunsTags R remaining contents input input' output output' r

@@ -1,4 +1,5 @@
--- What was taken of lines that come in pieces, and the answers to it.
+-- Lemmas for the steps of `Answering`. If the state was right for the bytes read and written so far (`IsTaken`), it is
+-- right after each step: a line is answered, the unfinished line goes on, or answers are written.
 use Rattle.std.proofs.Math.Bool.{and-true, and-false}
 use Rattle.std.proofs.Common.{◌&&◌, ◌≡◌, ◌<◌, ◌+◌, ◌++◌, ◌∷◌, ◌∙◌, ℕ, List, [], Bool, true, false, length, sym, ap}
 use Rattle.std.proofs.Common.{refl, subst, arith, append_assoc, append-nil, length-append, suc, cond, ◌==◌, ne_eqb}
@@ -20,8 +21,8 @@ use Rattle.lt_lines.proofs.PartLemmas.{kept_more, short_by, short_line}
 
 -- ---- answers
 
--- the answers to some lines, and the answer `r` to one line after them, which is the first of the text if there are
--- none
+-- the answers to some lines, and then the answer `r` to one line after them, are the answers to all these lines; that
+-- line is the first of the text if it has none before it
 replies-append : (T : Terms) (first : Bool) (lines : List (List ℕ)) (owed : List Reply) (line : List ℕ) (r : Reply)
     → AreRepliesFrom T first lines owed → IsReplyTo T ((length owed == 0) && first) line r
     → AreRepliesFrom T first (lines ++ line ∷ []) (owed ++ r ∷ [])
@@ -38,12 +39,12 @@ replies-length T first [] [] h = refl
 replies-length T first (l ∷ lines) (o ∷ owed) h = ap (λ n. suc n) (replies-length T false lines owed h.1)
 replies-length T first lines owed h = absurd h
 
--- the bytes of some answers, and of one more
+-- the bytes of some answers and one more are the bytes of the answers, and then those of that one
 pub bytes_in-last : (owed : List Reply) (r : Reply) → bytes_in (owed ++ r ∷ []) ≡ bytes_in owed ++ r.bytes
 bytes_in-last [] r = append-nil r.bytes
 bytes_in-last (o ∷ owed) r = ap (λ l. o.bytes ++ l) (bytes_in-last owed r) ∙ sym (append_assoc o.bytes (bytes_in owed) r.bytes)
 
--- the refusals among some answers, and one more
+-- among some answers and one more there are as many refusals as among the answers, and one more if that one refuses
 pub refused_in-last : (owed : List Reply) (r : Reply) → refused_in (owed ++ r ∷ []) ≡ refused_in owed + one_if r.refused
 refused_in-last owed r =
     sum_by-append (λ (o : Reply). cond o.refused 1 0) owed (r ∷ [])
@@ -52,7 +53,8 @@ refused_in-last owed r =
 
 -- ---- what was taken
 
--- `part` and a line feed (10) ended the unfinished line, and it was answered by `r`
+-- if `part` and a line feed (10) ended the unfinished line, and it was answered by `r` and counted, the state is right
+-- with these bytes
 pub taken_line : (T : Terms) (bytes out part : List ℕ) (r : Reply) (old new : Answering) → IsTaken T bytes out old
     → IsWholeAfter T.form old.kept.items old.place part
     → ((last : List ℕ) → old.kept.items ≡ kept_of T.form last → IsReplyTo T (old.counts.lines == 0) (last ++ part) r)
@@ -89,7 +91,7 @@ taken_line T bytes out part r old new t one owed_for grown none closed feeds lin
       recent = recent;
     }
 
--- the unfinished line went on with the bytes `more`, and no line was answered
+-- if the unfinished line went on with the bytes `more`, and no line was answered, the state is right with these bytes
 taken_more : (T : Terms) (bytes out more : List ℕ) (old new : Answering) (t : IsTaken T bytes out old)
     → IsUnit T.form (t.last ++ more) → new.kept.items ≡ kept_of T.form (t.last ++ more)
     → new.place ≡ place_of T.form (t.last ++ more) → (is_quoted new.place ≡ false → IsShort T.form (t.last ++ more))
@@ -114,7 +116,7 @@ taken_more T bytes out more old new t one kept inside short feeds owed counts ta
   recent = rw recent t.recent;
 }
 
--- the unfinished line went on with `part` and a line feed (10) within quotes
+-- if the unfinished line went on with `part` and a line feed (10) within quotes, the state is right with these bytes
 pub taken_within : (T : Terms) (bytes out part : List ℕ) (old new : Answering) → IsTaken T bytes out old
     → IsOneLine part → is_quoted (place_then T.form old.place part) ≡ true
     → GoesOn T.form part old new → IsTaken T (bytes ++ (part ++ 10 ∷ [])) out new
@@ -132,7 +134,8 @@ taken_within T bytes out part old new t one inside g =
     (λ closed. let bad : true ≡ false = ap is_quoted (sym g.goes_on) ∙ closed in cc)
     (g.feeds ∙ ap (λ n. old.feeds + n) (sym (one_feed [] part one))) g.owed g.counts g.tallies g.recent
 
--- the unfinished line went on with `part`, which has no line feed, and is not too long
+-- if the unfinished line went on with `part`, which has no line feed, and is not too long, the state is right with
+-- these bytes
 pub taken_part : (T : Terms) (bytes out part : List ℕ) (old new : Answering) → IsTaken T bytes out old → IsOneLine part
     → (IsLongBy T.form (length old.kept.items) (length part) → ⊥)
     → new.kept.items ≡ old.kept.items ++ part_kept T.form (length old.kept.items) part
@@ -146,7 +149,7 @@ taken_part T bytes out part old new t one room kept inside feeds owed counts tal
     (λ _. short_line T.form old.kept.items t.last part t.kept (short_by T.form old.kept.items part room))
     (omega (arith, feeds, no_feeds part one)) owed counts tallies recent
 
--- a front of the waiting answers, `part`, was written
+-- if a front of the waiting answers, `part`, was written, the state is right for the same bytes
 pub taken_write : (T : Terms) (bytes out part : List ℕ) (old new : Answering) → IsTaken T bytes out old → KeepsLine old new
     → old.owed.items ≡ part ++ new.owed.items → IsTaken T bytes (out ++ part) new
 taken_write T bytes out part old new t same wrote = record {
@@ -168,8 +171,8 @@ taken_write T bytes out part old new t same wrote = record {
   recent = rw same.recent t.recent;
 }
 
--- what was written, `wrote`, ends with a front of the waiting answers, `part`; so it is a front of what is owed for all
--- bytes, `all`, whichever follow those that were taken
+-- if what was written, `wrote`, ends with a front of the waiting answers, `part`, it is a front of what is owed for all
+-- bytes, `all`, whatever bytes, `more`, follow those that were taken
 pub begun_front : (T : Terms) (bytes out part more all wrote : List ℕ) (state : Answering) → IsTaken T bytes out state
     → IsFrontOf part state.owed.items
     → all ≡ bytes ++ more → wrote ≡ out ++ part → IsBegun T all wrote
@@ -184,7 +187,8 @@ begun_front T bytes out part more all wrote state t front all_is wrote_is = reco
       ∙ ap (λ (l : List ℕ). l ++ front.0) (sym wrote_is);
 }
 
--- what was written, `out`, is a front of what is owed for all bytes, `all`, whichever follow those that were taken
+-- what was written, `out`, is a front of what is owed for all bytes, `all`, whatever bytes, `more`, follow those that
+-- were taken
 pub begun_nothing : (T : Terms) (bytes out more all : List ℕ) (state : Answering) → IsTaken T bytes out state
     → all ≡ bytes ++ more → IsBegun T all out
 begun_nothing T bytes out more all state t all_is = begun_front T bytes out [] more all out state t

@@ -1,4 +1,5 @@
--- One line more that is counted if it is refused.
+-- Lemmas for `count_if`: the tallies of some lines become those of these lines and a further one, which is counted if
+-- it is refused.
 use Rattle.std.proofs.Common.{◌≡◌, ◌≤◌, ◌<◌, ◌+◌, ◌++◌, ◌∷◌, inl, inr, ℕ, List, [], Bool, true, false, length, ap, refl, subst, arith}
 use Rattle.lt_stream.specs.Tallies.{Refused}
 use Rattle.lt_stream.specs.declared.tallies.Tally.{Tally}
@@ -6,7 +7,7 @@ use Rattle.lt_lines.specs.Owed.{AreRepliesFrom, Reply, Terms}
 use Rattle.lt_lines.specs.Tallied.{AreRefused, AreTalliesOf, CountsIf, IsRefusedAs}
 use Rattle.lt_lines.specs.declared.forms.LineForm.{LineForm}
 
--- no more lines are refused than are answered, so that a count of them fits where one of answers does
+-- no more lines are refused than are answered, so that their count fits into 64 bits if that of the answers does
 refused_fewer : (form : LineForm) (number : ℕ) (lines : List (List ℕ)) (replies : List Reply) (refusals : List Refused)
     → AreRefused form number lines replies refusals → length refusals ≤ length replies
 refused_fewer form number (line ∷ lines) (r ∷ replies) refusals (inl kept) = let fewer = refused_fewer form (number + 1)

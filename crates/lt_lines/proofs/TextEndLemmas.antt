@@ -1,4 +1,5 @@
--- The call that answers the end of a text that may begin with a byte order mark.
+-- Lemmas for `Marked::finish`, which answers the end of a text that may begin with a byte order mark: what is true of
+-- the end of its lines is true of the end of the text.
 use Rattle.std.proofs.Common.{Result, Ok, Err, ◌≡◌, ◌++◌, ◌∙◌, ◌⊎◌, ℕ, List, [], true, false, Option, sym, ap, refl}
 use Rattle.std.proofs.Common.{subst, append_assoc, inl, inr}
 use Rattle.std.proofs.KnownBytes.{Appends-trans}
@@ -17,7 +18,8 @@ use Rattle.lt_stream.specs.declared.faults.ToolFault.{ToolFault}
 use Rattle.lt_lines.proofs.MarkedLemmas.{IsAt, at_after, splits_marked, stop_from}
 use Rattle.lt_lines.proofs.TextRunLemmas.{unbegun}
 
--- all lines after the mark were answered: all that is owed for the bytes was written; `a` is the state before the end
+-- if the lines after the mark were finished with counts, all that is owed for the bytes was written; `a` is the state
+-- before the end
 finish_done : {W : Type 0} (T : Terms) (contents : W → Option (List ℕ)) (bytes out : List ℕ) (a new : Answering) (before
     after : Device W) (counts : Counts) → IsAt T bytes out a
     → (f : FinishesLines T contents a new before after (Ok counts))
@@ -32,8 +34,8 @@ finish_done T contents bytes out a new before after counts at f = record {
   holds = f.done.1 at.text at.out at.taken;
 }
 
--- the end of the text after the mark ended the run by the fault `e`; `between` is the output before the last answers,
--- and no write had failed from `before` to it
+-- if the end of the lines after the mark ended by the fault `e`, the end of the text ended by it for the same reason;
+-- `between` is the output before the last answers, and no write had failed from `before` to it
 finish_ends : {W : Type 0} (T : Terms) (contents : W → Option (List ℕ)) (bytes out : List ℕ) (a new : Answering) (before
     between after : Device W) (e : ToolFault) → IsAt T bytes out a → a.owed.items ≡ []
     → failures_of between ≡ failures_of before → (f : FinishesLines T contents a new between after (Err e))
@@ -62,7 +64,7 @@ finish_ends T contents bytes out a new before between after e at none same f =
       ))
     ]
 
--- the end of a text that is past its mark
+-- past the mark, what is true of the end of the lines is true of the end of the text
 pub finish_text : {W : Type 0} (T : Terms) (contents : W → Option (List ℕ)) (old new : Marked) (before after : Device
     W) (r : Result Counts ToolFault) → old.is_begun ≡ true
     → FinishesLines T contents old.answering new.answering before after r
@@ -93,7 +95,7 @@ finish_text T contents old new before after (Err e) begun f = record {
 -- are taken as text, `new` and `after` once the lines are finished
 module _ {W : Type 0} (T : Terms) (contents : W → Option (List ℕ)) (old mid new : Marked)
     (before between after : Device W) (begun : old.is_begun ≡ false) where
-  -- the bytes, fewer than a mark has, were taken as text
+  -- once the first bytes are split and taken as text, their mark was written and the text after it was taken in
   at_begun : (bytes out : List ℕ) → IsKeptFront T bytes out old
       → (b : BeginsText T contents old mid before between (Ok tt)) → IsAt T bytes (out ++ b.written) mid.answering
   at_begun bytes out k b =
@@ -108,7 +110,7 @@ module _ {W : Type 0} (T : Terms) (contents : W → Option (List ℕ)) (old mid 
         taken = more.2 k.taken;
       }
 
-  -- the lines were finished, with counts or by a fault
+  -- if then the lines were finished, with counts or by a fault, the text was finished so
   pub finish_front : (r : Result Counts ToolFault) → BeginsText T contents old mid before between (Ok tt)
       → FinishesLines T contents mid.answering new.answering between after r
       → FinishesText T contents old new before after r
@@ -138,7 +140,7 @@ module _ {W : Type 0} (T : Terms) (contents : W → Option (List ℕ)) (old mid 
     ];
   }
 
-  -- the run ended before, by the fault `e`
+  -- if taking the first bytes ended by the fault `e`, the end of the text ended by it
   pub finish_stopped : (e : ToolFault) → BeginsText T contents old mid before after (Err e)
       → FinishesText T contents old mid before after (Err e)
   finish_stopped e b = record {

@@ -1,4 +1,6 @@
--- What is owed for a text by its first bytes: a long one is too long, and a canonical one is no refusal. Answers that were given lately.
+-- Lemmas on the answer that is owed for a text. The front that is kept of a long line has the same answer as the line.
+-- A canonical text never begins with `! `, as an answer that refuses does. The cache of answers that were given lately
+-- stays right where an answer is put into it.
 use Rattle.std.proofs.Common.{map, ◌≡◌, ◌≤◌, ◌<◌, ◌+◌, ◌-◌, ◌++◌, ◌∷◌, inl, inr, ℕ, List, [], Bool, true, false, length}
 use Rattle.std.proofs.Common.{take, sym, ap, ◌∙◌, append_assoc, refl, subst, arith, if◌then◌else◌, ◌==◌, ◌&&◌, take_all}
 use Rattle.std.proofs.Common.{length-take-le, Option, Result, OnOk, drop, All}
@@ -99,7 +101,7 @@ marked text listed = by_pieces (pieces text) (from_HasList (33 ∷ text) listed)
     by_pieces [] h = cc
     by_pieces (p ∷ ps) h = cc
 
--- a list of subtags begins with another byte than an exclamation mark (33)
+-- a list of subtags does not begin with an exclamation mark (33)
 unmarked_byte : (byte : ℕ) (text : List ℕ) → HasList (byte ∷ text) → (byte == 33) ≡ false
 unmarked_byte byte text listed = elim (cases_Bool (byte == 33)) [
   | inl e ↦ absurd (marked text (subst (λ (b : ℕ). HasList (b ∷ text)) (eqb-true byte 33 e) listed))

@@ -1,4 +1,5 @@
--- The calls that answer a text that may begin with a byte order mark, piece by piece.
+-- Lemmas for `Marked::begin` and `Marked::take_piece`, which answer a text that may begin with a byte order mark, piece
+-- by piece: what is true of a piece of its lines is true of a piece of the text.
 use Rattle.std.proofs.Common.{Result, Ok, Err, ◌≡◌, ◌↔◌, IsTrue, not, ◌++◌, ◌∷◌, ◌∙◌, ℕ, List, [], Bool, true, false}
 use Rattle.std.proofs.Common.{Option, length, sym, ap, refl, subst, arith, append_assoc, append-nil, length-append, inl}
 use Rattle.std.proofs.Common.{inr}
@@ -45,8 +46,8 @@ fresh_taken T state fresh = record {
   recent = fresh.recent T.ground.entries T.form;
 }
 
--- a state that keeps no bytes and has answered nothing has read nothing of a text; it has begun where no mark is looked
--- for, which `may` tells
+-- a state that keeps no bytes and has answered nothing is that of a text of which nothing is read, if it is past the
+-- mark exactly where no mark is looked for; `may` tells whether one is
 pub new_text : (T : Terms) (state : Marked) (may : Bool) → IsTrue may ↔ MayHaveMark T.form → state.front.items ≡ []
     → state.is_begun ≡ not may → IsFresh state.answering → IsNew T state
 new_text T state true tells front begun fresh = record {
@@ -80,8 +81,8 @@ new_text T state false tells front begun fresh =
 
 -- ---- the mark is written
 
--- the kept first bytes were split into `mark` and `text`: the output is `before` until the mark is written, then
--- `between`, and `after` once the text was taken in
+-- The kept first bytes were split into `mark` and `text`. The output is `before` until the mark is written, then
+-- `between`, and `after` once the text was taken in. In each case below `begin` did what is said of it (`BeginsText`).
 module _ {W : Type 0} (T : Terms) (contents : W → Option (List ℕ)) (old new : Marked) (before between after : Device W)
     (mark text : List ℕ) (split : SplitsMark old.front.items mark text) where
   -- the mark could not be written
@@ -148,7 +149,7 @@ module _ {W : Type 0} (T : Terms) (contents : W → Option (List ℕ)) (old new 
 
 -- ---- pieces
 
--- a piece of a text comes in
+-- a piece of a text comes in, and is taken as the contract says (`TakesText`)
 module _ {W : Type 0} (T : Terms) (contents : W → Option (List ℕ)) (piece : List ℕ) (old new : Marked) (before after : Device W) where
   -- after the mark a piece is taken in by the state that answers lines
   pub text_piece : (r : Result (Unit {0}) ToolFault) → old.is_begun ≡ true → new.is_begun ≡ true
@@ -191,7 +192,8 @@ module _ {W : Type 0} (T : Terms) (contents : W → Option (List ℕ)) (piece : 
     ];
   }
 
--- a piece of a text comes in before it is known whether the text begins with a mark
+-- A piece of a text comes in before it is known whether the text begins with a mark. In each case below it is taken as
+-- the contract says (`TakesText`).
 module _ {W : Type 0} (T : Terms) (contents : W → Option (List ℕ)) (piece : List ℕ) (old new : Marked)
     (before : Device W) (begun : old.is_begun ≡ false) where
   -- the bytes begin with a byte order mark of UTF-16

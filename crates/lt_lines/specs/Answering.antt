@@ -1,4 +1,5 @@
--- How the state of a run changes while lines come in pieces and are answered. No public contract cites this.
+-- How the state of a run changes while lines come in pieces and are answered. A front of some bytes is the first of
+-- them, perhaps none or all. No public contract cites this.
 use Rattle.std.specs.Prelude.{◌≡◌, ◌<◌, ◌≤◌, ◌+◌, ◌-◌, ◌^◌, ◌⊎◌, ℕ, Bool, true, false, List, [], ◌∷◌, ◌++◌, length}
 use Rattle.std.specs.Prelude.{take, Option, Some, None, Result, IfErr, IfOk}
 use Rattle.std.specs.List.{All, AllByRecursion}
@@ -44,8 +45,8 @@ abbrev pub one_if : Bool → ℕ
 one_if true = 1
 one_if false = 0
 
--- what is kept of an unfinished line: all of a row, and of a tag the bytes by which a longer one is known to be too
--- long
+-- what is kept of an unfinished line: all of a row or record, and of a tag the first 1,027 bytes, which are enough to
+-- know that a longer tag is too long
 abbrev pub kept_of : LineForm → List ℕ → List ℕ
 kept_of forms.Tag line = take longest_kept line
 kept_of (forms.Row row) line = line
@@ -57,13 +58,13 @@ part_kept forms.Tag count part = take (longest_kept - count) part
 part_kept (forms.Row row) count part = part
 part_kept (forms.Csv row delimiter) count part = part
 
--- what is kept of a line once its last bytes are there: nothing where nothing was kept before them, else all that is to
--- be kept of it
+-- what is kept of a line, `new`, once its last bytes, `part`, are there: nothing if nothing was kept before them
+-- (`old`), else what was kept and the part of the last bytes that is to be kept
 abbrev pub KeepsPart : LineForm → (old part new : List ℕ) → Type 0
 KeepsPart form [] part new = new ≡ []
 KeepsPart form (byte ∷ old) part new = new ≡ (byte ∷ old) ++ part_kept form (length (byte ∷ old)) part
 
--- the place (within quotes or outside) after a line's next bytes, by the place before them; in CSV alone it changes
+-- the place (within quotes or outside) after a line's next bytes, by the place before them; it changes only in CSV
 abbrev pub place_then : LineForm → Place → List ℕ → Place
 place_then forms.Tag place part = places.Fresh
 place_then (forms.Row row) place part = places.Fresh
@@ -156,7 +157,8 @@ pub record EndsRefused (S : Separator) (refusal : TextRefusal) (text line old ne
   pub is_told : IsTold refusal told
   pub grown : new ≡ old ++ row_line S text told line
 
--- what a cache has for a text is right: the answer to a line that is a tag, the canonical text of a row's field
+-- what a cache has for a text is right, by the entries R: it is the answer to the text as a line that is a tag, or the
+-- canonical text of the text as a row's field
 abbrev pub IsRight : List EntryParts → LineForm → Kept → Type 0
 IsRight R forms.Tag kept = IsTextReply R kept.line (reply kept.answer kept.refused)
 IsRight R (forms.Row row) kept = IsCanonicalTextOf R kept.line kept.answer
@@ -167,14 +169,16 @@ abbrev pub IsRecent : List EntryParts → LineForm → Option Kept → Type 0
 IsRecent R form None = Unit {0}
 IsRecent R form (Some kept) = IsRight R form kept
 
--- all that the cache of recent answers has is right: its answers to whole texts, and its endings of texts
+-- all that the cache of recent answers has is right: its answers to whole texts, and its canonical ends of texts, for
+-- example `-u-nu-latn`
 pub record AreRecent (R : List EntryParts) (form : LineForm) (recent : RecentAnswers) : Type 0 where
   pub whole : All (IsRecent R form) recent.whole
   pub ends : AreEnds R recent.ends
 
--- The bytes `bytes` were read, and `written` was written. Their whole lines, `lines`, are answered, each answer is
--- written or waits to be, they are counted and tallied, and what is needed of the rest, `last`, is kept. The answers
--- that were given lately are right.
+-- The bytes `bytes` were read, and `written` was written. Their whole lines are `lines`, and the rest is `last`. The
+-- whole lines have the answers `owed`, whose bytes were written or wait to be written (`all`), and they are counted and
+-- tallied. Of `last`, which is not too long unless it ends within quotes, what is needed is kept, and the place at its
+-- end is known. The line feeds are counted. The answers that were given lately are right (`recent`).
 pub record IsTaken (T : Terms) (bytes written : List ℕ) (state : Answering) : Type 0 where
   pub lines : List (List ℕ)
   pub last : List ℕ
@@ -193,8 +197,9 @@ pub record IsTaken (T : Terms) (bytes written : List ℕ) (state : Answering) : 
   pub tallied : AreTalliesOf T.form lines owed state.tallies
   pub recent : AreRecent T.ground.entries T.form state.recent
 
--- the bytes `bytes` were read to their end, and `written` was written: each of their lines is answered, and each answer
--- is written or waits to be
+-- The bytes `bytes` were read to their end, which is outside of quotes, and `written` was written. Each of their lines
+-- is of the grammar and not too long, and has one of the answers `owed`, whose bytes were written or wait to be written
+-- (`all`). The lines are counted and tallied.
 pub record IsAnswered (T : Terms) (bytes written : List ℕ) (state : Answering) : Type 0 where
   pub closed : is_open T.form bytes ≡ false
   pub lines_are : AreLinesIn bytes (units_of T.form bytes)
@@ -207,7 +212,8 @@ pub record IsAnswered (T : Terms) (bytes written : List ℕ) (state : Answering)
   pub refused : state.counts.refused ≡ refused_in owed
   pub tallied : AreTalliesOf T.form (units_of T.form bytes) owed state.tallies
 
--- the counts of a run have room for this many further lines: each stays below 2 to the 64
+-- the counts of a run have room for this many further lines: with them the counts of lines, of refused lines and of
+-- line feeds stay below 2 to the 64
 pub record HasRoom (state : Answering) (lines : ℕ) : Type 0 where
   pub room : state.counts.lines + lines < 2 ^ 64
   pub feeds : state.feeds + lines < 2 ^ 64
@@ -219,7 +225,8 @@ pub record CountsFeed (old new : Answering) : Type 0 where
   pub refused : new.counts.refused ≤ new.counts.lines
   pub feeds : new.feeds ≡ old.feeds + 1
 
--- a line that goes on after a line feed (10), which is within quotes: its next bytes and the line feed are kept
+-- a line goes on after a line feed (10), which is within quotes: its next bytes, `part`, and the line feed are kept,
+-- and nothing is answered
 pub record GoesOn (form : LineForm) (part : List ℕ) (old new : Answering) : Type 0 where
   pub kept : new.kept.items ≡ (old.kept.items ++ part_kept form (length old.kept.items) part)
       ++ part_kept form (length (old.kept.items ++ part_kept form (length old.kept.items) part)) (10 ∷ [])
@@ -247,8 +254,9 @@ pub record KeepsLine (old new : Answering) : Type 0 where
   pub tallies : new.tallies ≡ old.tallies
   pub recent : new.recent ≡ old.recent
 
--- a front of the answers that wait, `written`, was written, perhaps none of them; or a write failed after it.
--- `contents` gives the bytes that an output was given, and `before` and `after` are the output before and after
+-- A front of the answers that waited, `written`, was written, perhaps nothing. If no write failed, the rest of them
+-- still waits (`done`); else the fault is Write (`stopped`). `contents` gives the bytes that an output was given, and
+-- `before` and `after` are the output before and after.
 pub record WritesOwed {W : Type 0} (contents : W → Option (List ℕ)) (old new : Answering) (before after : Device W)
     (result : Result (Unit {0}) ToolFault) : Type 0 where
   pub written : List ℕ
@@ -272,8 +280,9 @@ pub record StopsLong {W : Type 0} (form : LineForm) (contents : W → Option (Li
   pub ends : ((f ≡ faults.Write) × HasFailed before after × IsFrontOf written old.owed.items)
       ⊎ ((f ≡ long_fault form (line_of old)) × (failures_of after ≡ failures_of before) × (written ≡ old.owed.items))
 
--- a row or record that goes on in this piece is too long, and the answers to those before it were written: `written` is
--- those that were written from the output `before` to `after`
+-- A row or record that goes on in this piece and begins in `line` is too long, and no write failed. If the state `old`
+-- was right for the bytes read and the bytes `out` written before, then all answers that are owed before this row are
+-- written, the last of them, `written`, from the output `before` to `after`, and the tallies count their refused lines.
 pub record StopsTooLong {W : Type 0} (T : Terms) (piece : List ℕ) (old new : Answering) (before after : Device W)
     (written : List ℕ) (f : ToolFault) : Type 0 where
   pub line : ℕ
@@ -290,9 +299,10 @@ IsPieceStop T piece old new before after written f = StopsTooLong T piece old ne
     ⊎ (IsStop before after f ×
     ((bytes out : List ℕ) → IsTaken T bytes out old → IsBegun T (bytes ++ piece) (out ++ written)))
 
--- A piece of the reader's bytes was taken in, and all answers that are due were written; or a fault ended the run.
--- `old` and `before` are the state and the output before that, `new` and `after` those after it. That holds of any
--- `bytes` read and `out` written before. The counts lose room for one line for each byte at most (`room`).
+-- A piece of the reader's bytes was taken in, and all answers that wait were written (`done`); or a fault ended the run
+-- (`stopped`). `old` and `before` are the state and the output before that, `new` and `after` those after it. A state
+-- that was right for any `bytes` read and `out` written before is right with the piece and `written` too. The counts
+-- lose room for at most one line for each byte (`room`).
 pub record TakesPiece {W : Type 0} (T : Terms) (contents : W → Option (List ℕ)) (piece : List ℕ)
     (old new : Answering) (before after : Device W) (result : Result (Unit {0}) ToolFault) : Type 0 where
   pub written : List ℕ
@@ -302,7 +312,10 @@ pub record TakesPiece {W : Type 0} (T : Terms) (contents : W → Option (List �
   pub room : IfOk result (λ _. (count : ℕ) → HasRoom old (length piece + count) → HasRoom new count)
   pub stopped : IfErr result (IsPieceStop T piece old new before after written)
 
--- the text ends within quotes, and the fault names the line in which the unfinished record begins
+-- The text ends within quotes, no write failed, and the fault names the `line` in which the unfinished record begins.
+-- If the state `old` was right for the bytes read and the bytes `out` written before, and no answers waited, then what
+-- is owed before that record is what was written, the last of it, `written`, from the output `before` to `after`, and
+-- the tallies count its refused lines.
 pub record StopsInQuotes {W : Type 0} (T : Terms) (old new : Answering) (before after : Device W) (written : List ℕ)
     (f : ToolFault) : Type 0 where
   pub line : ℕ
@@ -317,8 +330,9 @@ abbrev pub IsLastStop : {W : Type 0} → Terms → (old new : Answering) → Dev
 IsLastStop T old new before after written f = StopsInQuotes T old new before after written f
     ⊎ (IsStop before after f × ((bytes out : List ℕ) → IsTaken T bytes out old → IsBegun T bytes (out ++ written)))
 
--- a last line without a line feed was answered too, and all answers were written; or a fault ended the run. `old` and
--- `before` are the state and the output before that, `new` and `after` those after it
+-- A last line without a line feed was answered too, and all that is owed was written, counted and tallied (`done`); or
+-- a fault ended the run (`stopped`). `old` and `before` are the state and the output before that, `new` and `after`
+-- those after it.
 pub record FinishesLines {W : Type 0} (T : Terms) (contents : W → Option (List ℕ)) (old new : Answering)
     (before after : Device W) (result : Result Counts ToolFault) : Type 0 where
   pub written : List ℕ

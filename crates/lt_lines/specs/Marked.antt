@@ -13,8 +13,9 @@ use Rattle.lt_lines.specs.declared.runs.Counts.{Counts}
 use Rattle.lt_stream.specs.declared.faults.ToolFault.{ToolFault}
 use Rattle.lt_stream.specs.declared.faults.ToolFault.TheVariants as faults
 
--- The byte order mark of these bytes, if they have one, was written, and the text after it was taken in by the state
--- that answers lines. The mark is the same whatever bytes follow (`split`, `narrow`).
+-- The byte order mark of these bytes, if they have one, was written, and then `out`, answers to the text after it. That
+-- text was taken in by the state that answers lines. Whatever bytes follow, the mark is the same (`split`) and is none
+-- of UTF-16 (`narrow`).
 pub record IsTakenAfter (T : Terms) (bytes written : List ℕ) (state : Marked) : Type 0 where
   pub begun : state.is_begun ≡ true
   pub emptied : state.front.items ≡ []
@@ -41,7 +42,7 @@ pub record IsKeptFront (T : Terms) (bytes written : List ℕ) (state : Marked) :
 abbrev pub IsTakenText : Terms → List ℕ → List ℕ → Marked → Type 0
 IsTakenText T bytes written state = IsTakenAfter T bytes written state ⊎ IsKeptFront T bytes written state
 
--- the state of a run over a text that has read nothing
+-- the state of a run over a text that has read nothing and has no answers that wait
 pub record IsNew (T : Terms) (state : Marked) : Type 0 where
   pub taken : IsTakenText T [] [] state
   pub emptied : state.answering.owed.items ≡ []
@@ -50,8 +51,10 @@ pub record IsNew (T : Terms) (state : Marked) : Type 0 where
 abbrev pub HasRoomFor : Marked → ℕ → Type 0
 HasRoomFor state count = HasRoom state.answering (length state.front.items + count)
 
--- why a run over a text ends early: a write or memory failed, the text is UTF-16, or a row or record is too long;
--- `written` is what was written for `bytes`, the last of it from the output `before` to `after`
+-- Why a run over a text ends early: a write failed or memory ran out, and `written` is a front of what is owed for
+-- `bytes`; or `bytes` begin with a mark of UTF-16, and nothing was written or tallied; or a row or record is too long,
+-- and what is owed before it was written and tallied. `before` and `after` are the output before the last step and
+-- after it: only Write says that a write failed in between.
 abbrev pub EndsText : {W : Type 0} → Terms → Device W → Device W → (bytes written : List ℕ) → List Tally
     → ToolFault → Type 0
 EndsText T before after bytes written tallies f = (IsStop before after f × IsBegunText T bytes written)
@@ -60,8 +63,9 @@ EndsText T before after bytes written tallies f = (IsStop before after f × IsBe
     ⊎ ((line : ℕ) × (f ≡ long_fault T.form line) × (failures_of after ≡ failures_of before)
     × AfterMark T (TalliesTooLong T line tallies) bytes written))
 
--- the kept first bytes were split: their mark was written, and what follows it was taken in; or a fault ended the run.
--- `old` and `before` are the state and the output before that, `new` and `after` those after it
+-- The kept first bytes were split: their mark was written, and what follows it was taken in (`done`); or a fault ended
+-- the run (`stopped`). `old` and `before` are the state and the output before that, `new` and `after` those after it.
+-- If the counts had room for the kept bytes and `count` further ones, they have room for `count` after it (`room`).
 pub record BeginsText {W : Type 0} (T : Terms) (contents : W → Option (List ℕ)) (old new : Marked)
     (before after : Device W)
     (result : Result (Unit {0}) ToolFault) : Type 0 where
@@ -77,8 +81,9 @@ pub record BeginsText {W : Type 0} (T : Terms) (contents : W → Option (List �
   pub stopped : IfErr result (λ f. MayHaveMark T.form → (IsWide old.front.items → ⊥) → IsTaken T [] [] old.answering
       → EndsText T before after old.front.items written new.answering.tallies f)
 
--- a piece of the reader's bytes was taken in, and all answers that are due were written; or a fault ended the run.
--- `old` and `before` are the state and the output before that, `new` and `after` those after it
+-- A piece of the reader's bytes was taken in, and all answers that wait were written (`done`); or a fault ended the run
+-- (`stopped`). `old` and `before` are the state and the output before that, `new` and `after` those after it. What is
+-- said is true of any `bytes` read and `out` written before, for which the state `old` was right.
 pub record TakesText {W : Type 0} (T : Terms) (contents : W → Option (List ℕ)) (piece : List ℕ) (old new : Marked)
     (before after : Device W) (result : Result (Unit {0}) ToolFault) : Type 0 where
   pub written : List ℕ
@@ -89,7 +94,10 @@ pub record TakesText {W : Type 0} (T : Terms) (contents : W → Option (List ℕ
   pub stopped : IfErr result (λ f. (bytes out : List ℕ) → IsTakenText T bytes out old
       → EndsText T before after (bytes ++ piece) (out ++ written) new.answering.tallies f)
 
--- the text ends within quotes, and the fault names the line in which the unfinished record begins
+-- The bytes `bytes` of a text end within quotes, and the fault names the `line` in which the unfinished record begins.
+-- No write failed from the output `before` to `after` (`same`). All that was written for the text, `written`, is its
+-- byte order mark, if it has one, and what is owed for the records before that one, and the tallies count the refused
+-- ones of these (`ends`).
 pub record EndsTextInQuotes {W : Type 0} (T : Terms) (before after : Device W) (bytes written : List ℕ)
     (tallies : List Tally) (f : ToolFault) : Type 0 where
   pub line : ℕ
@@ -97,8 +105,10 @@ pub record EndsTextInQuotes {W : Type 0} (T : Terms) (before after : Device W) (
   pub same : failures_of after ≡ failures_of before
   pub ends : AfterMark T (TalliesInQuotes T line tallies) bytes written
 
--- a last line without a line feed was answered too, and all answers were written; or a fault ended the run. `old` and
--- `before` are the state and the output before that, `new` and `after` those after it
+-- A last line without a line feed was answered too, and all that is owed was written, counted and tallied (`done`); or
+-- a fault ended the run (`stopped`). `old` and `before` are the state and the output before that, `new` and `after`
+-- those after it. What is said is true of any `bytes` read and `out` written before, for which the state `old` was
+-- right.
 pub record FinishesText {W : Type 0} (T : Terms) (contents : W → Option (List ℕ)) (old new : Marked)
     (before after : Device W) (result : Result Counts ToolFault) : Type 0 where
   pub written : List ℕ

@@ -29,8 +29,8 @@ use Rattle.lt_stream.specs.declared.faults.ToolFault.{ToolFault}
 use Rattle.lt_stream.specs.declared.faults.ToolFault.TheVariants as faults
 use Rattle.lt_lines.specs.declared.runs.Counts.{Counts}
 
--- by what texts are answered: the entries of a registry, and a table of codes, whose registered subtag replaces a code
--- that a text begins with
+-- What texts are answered by: the entries of a registry, and a table of codes. If a text begins with a code, it is read
+-- with the registered subtag that the table has for the code.
 pub record Ground : Type 0 where
   pub entries : List EntryParts
   pub codes : List Code
@@ -82,8 +82,8 @@ is_refusal [] = false
 is_refusal (a ∷ []) = false
 is_refusal (a ∷ b ∷ rest) = (a == 33) && (b == 32)
 
--- the answer that is owed for a text, canonical text or refusal, and its first bytes say which; OutOfMemory is never
--- owed
+-- the answer that is owed for a text: its canonical text, or its refusal, which begins with `! ` as no canonical text
+-- does (`marked`); OutOfMemory is never owed
 pub record IsTextReply (R : List EntryParts) (text : List ℕ) (r : Reply) : Type 0 where
   pub owed : (AnswersText R text r.bytes × (r.refused ≡ false)) ⊎ (RefusesText R text r.bytes × (r.refused ≡ true))
   pub marked : r.refused ≡ is_refusal r.bytes
@@ -98,17 +98,17 @@ end_of line = if ends_with_byte 13 line then 13 ∷ 10 ∷ [] else 10 ∷ []
 abbrev pub row_line : Separator → List ℕ → List ℕ → List ℕ → List ℕ
 row_line S row last line = row ++ separator S ∷ last ++ end_of line
 
--- the row; where rows are kept (true), with a further field, the canonical text of its tag
+-- the row; if rows are kept (true), with a further field, the canonical text of its tag
 abbrev pub with_canonical : Bool → Separator → (row canonical : List ℕ) → List ℕ
 with_canonical false S row canonical = row
 with_canonical true S row canonical = row ++ separator S ∷ canonical
 
--- the row unchanged, with a last field that says why it is refused; where rows are kept, the field before it is empty
+-- the row unchanged, with a last field that says why it is refused; if rows are kept, with an empty field before that
 abbrev pub refused_line : Bool → Separator → (line told : List ℕ) → List ℕ
 refused_line kept S line told = row_line S (with_canonical kept S (content_of line) []) told line
 
--- the answer to a row whose field, after `before` others, has a canonical text: that replaces the field's text, and an
--- empty last field is added
+-- the answer to a row whose field, after `before` others, has a canonical text: the canonical text replaces the field's
+-- text between its `quotes`, and an empty last field is added
 pub record AnswersRow (S : Separator) (G : Ground) (before : ℕ) (line bytes : List ℕ) : Type 0 where
   pub front : List ℕ
   pub field : List ℕ
@@ -135,7 +135,8 @@ pub record KeepsRow (S : Separator) (G : Ground) (before : ℕ) (line bytes : Li
   pub is_canonical : IsCanonicalTextOf G.entries (registered_text G.codes text) canonical
   pub line_is : bytes ≡ row_line S (with_canonical true S (content_of line) canonical) [] line
 
--- the answer to a row whose field has a canonical text: the text is replaced, or, where rows are kept (true), added
+-- the answer to a row whose field has a canonical text: this replaces the field's text, or, if rows are kept (true), it
+-- is added as a further field
 abbrev pub AnswersOrKeeps : Bool → Separator → Ground → ℕ → (line bytes : List ℕ) → Type 0
 AnswersOrKeeps false S G before line bytes = AnswersRow S G before line bytes
 AnswersOrKeeps true S G before line bytes = KeepsRow S G before line bytes
@@ -156,12 +157,13 @@ pub record RefusesRow (kept : Bool) (S : Separator) (G : Ground) (before : ℕ) 
   pub is_told : IsTold refusal told
   pub line_is : bytes ≡ refused_line kept S line told
 
--- the answer to a row of no more than `before` fields: the last field says `NoColumn`
+-- the answer to a row of no more than `before` fields: the last field says `NoColumn`; `kept` is whether rows are kept
 pub record LacksField (kept : Bool) (S : Separator) (before : ℕ) (line bytes : List ℕ) : Type 0 where
   pub fewer : HasFewer S before (content_of line)
   pub line_is : bytes ≡ refused_line kept S line (codes "NoColumn")
 
--- the answer that is owed for a row by what its field is; none is owed where memory runs out
+-- The answer that is owed for a row by what its field is: the canonical text is in it, or why the field is refused, or
+-- `NoColumn`. None is owed where memory runs out.
 abbrev pub IsFieldReply : Separator → Ground → RowForm → List ℕ → Reply → Type 0
 IsFieldReply S G row line r =
     (AnswersOrKeeps row.is_kept S G row.before line r.bytes × (r.refused ≡ false))
@@ -246,7 +248,7 @@ IsUnit forms.Tag text = IsOneLine text
 IsUnit (forms.Row row) text = IsOneLine text
 IsUnit (forms.Csv row delimiter) text = IsFreeOutside delimiter 10 places.Fresh text
 
--- whether the end of a text is within quotes, and where in a field; in CSV alone it matters
+-- the place at the end of a text: within quotes, or where in a field; it matters only in CSV
 abbrev pub place_of : LineForm → List ℕ → Place
 place_of forms.Tag text = places.Fresh
 place_of (forms.Row row) text = places.Fresh
@@ -288,7 +290,8 @@ IsOfGrammar (forms.Csv row delimiter) line = delimiter ≢ 34 → delimiter ≢ 
 abbrev pub feeds_in : List ℕ → ℕ
 feeds_in text = count_by (λ byte. byte == 10) text
 
--- all that is owed for the bytes was written and counted, and the bytes end outside of quotes
+-- all that is owed for the bytes was written and counted; the bytes end outside of quotes, and each of their lines is
+-- of the grammar and not too long
 pub record IsOwed (T : Terms) (bytes written : List ℕ) (counts : Counts) : Type 0 where
   pub closed : is_open T.form bytes ≡ false
   pub lines_are : AreLinesIn bytes (units_of T.form bytes)
@@ -311,8 +314,8 @@ pub record IsOwedToLastFeed (T : Terms) (bytes written : List ℕ) : Type 0 wher
   pub each : AreReplies T lines owed
   pub all : written ≡ bytes_in owed
 
--- the bytes end within the quotes of a record that begins in this line, counted from 1; the answers before it were
--- written
+-- the bytes end within the quotes of a record that begins in this line, counted from 1; what is owed for the records
+-- before it was written
 pub record EndsInQuotes (T : Terms) (bytes written : List ℕ) (line : ℕ) : Type 0 where
   pub owed : IsOwedToLastFeed T bytes written
   pub inside : is_open T.form owed.last ≡ true
@@ -324,7 +327,8 @@ long_fault forms.Tag line = faults.BadTsv line
 long_fault (forms.Row row) line = faults.BadTsv line
 long_fault (forms.Csv row delimiter) line = faults.BadCsv line
 
--- the row or record that begins in this line, counted from 1, is too long; the answers before it were written
+-- the row or record that begins in this line, counted from 1, is too long, as its front `begun` is; what is owed for
+-- those before it was written
 pub record EndsTooLong (T : Terms) (bytes written : List ℕ) (line : ℕ) : Type 0 where
   pub lines : List (List ℕ)
   pub begun : List ℕ
@@ -338,7 +342,8 @@ pub record EndsTooLong (T : Terms) (bytes written : List ℕ) (line : ℕ) : Typ
   pub all : written ≡ bytes_in owed
   pub begins : line ≡ feeds_in (ended lines) + 1
 
--- what was written is a front of what is owed for the first lines of the bytes
+-- what was written is a front, that is, the first bytes, of `owed`, the answers that are owed for some first lines of
+-- the bytes
 pub record IsBegun (T : Terms) (bytes written : List ℕ) : Type 0 where
   pub lines : List (List ℕ)
   pub others : List (List ℕ)
@@ -350,7 +355,8 @@ pub record IsBegun (T : Terms) (bytes written : List ℕ) : Type 0 where
 
 -- ---- a byte order mark
 
--- a byte order mark is looked for before rows and records; before tags none is, since each line is answered as it is
+-- a byte order mark is looked for before rows and records, and not before tags, since each of these lines is answered
+-- as it is
 abbrev pub MayHaveMark : LineForm → Type 0
 MayHaveMark forms.Tag = ⊥
 MayHaveMark (forms.Row row) = Unit {0}

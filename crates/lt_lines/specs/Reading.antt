@@ -11,8 +11,9 @@ use Rattle.lt_lines.specs.declared.marked.Marked.{Marked}
 use Rattle.lt_lines.specs.declared.runs.Counts.{Counts}
 use Rattle.lt_stream.specs.declared.tallies.Tally.{Tally}
 
--- the bytes `read` were read, and all answers that are due for them were written: `start` is the output at the
--- beginning of the run, and `now` the output then; `contents` gives the bytes that an output was given
+-- The bytes `read` were read, no write failed, and the answers to all whole lines among them were written. `start` is
+-- the output at the beginning of the run, and `now` the output here; `contents` gives the bytes that an output was
+-- given.
 pub record IsReading {W : Type 0} (T : Terms) (contents : W → Option (List ℕ)) (start now : Device W)
     (read : List ℕ) (state : Marked) : Type 0 where
   pub written : List ℕ
@@ -29,7 +30,7 @@ pub record HasWritten {W : Type 0} (contents : W → Option (List ℕ)) (start n
   pub appends : Appends (contents (inner_of start)) (contents (inner_of now)) written
   pub holds : P written
 
--- a piece of the text ended the run, which it does by a fault alone; `start` and `now` are the output at the beginning
+-- a piece of the text ended the run, which it does only by a fault; `start` and `now` are the output at the beginning
 -- and now
 abbrev pub StopsReading : {W : Type 0} → Terms → (W → Option (List ℕ)) → (start now : Device W) → List ℕ → List Tally
     → Result Counts ToolFault → Type 0
@@ -37,8 +38,8 @@ StopsReading T contents start now read tallies (Ok counts) = ⊥
 StopsReading T contents start now read tallies (Err f) =
     HasWritten contents start now (λ written. EndsText T start now read written tallies f)
 
--- the end of the text ended the run: with its counts, or with a fault; `start` and `now` are the output at the
--- beginning and now
+-- The end of the text ended the run: with its counts, and then all that is owed was written and no write failed; or
+-- with a fault. `start` and `now` are the output at the beginning and now.
 abbrev pub EndsReading : {W : Type 0} → Terms → (W → Option (List ℕ)) → (start now : Device W) → List ℕ → List Tally
     → Result Counts ToolFault → Type 0
 EndsReading T contents start now read tallies (Ok counts) =

@@ -1,4 +1,5 @@
--- What a run over the lines of a reader read and wrote, and how it ended.
+-- What a run over the lines of a reader read and wrote, and how it ended. What is owed for lines is the answers that a
+-- run has to write, and a front of that is its first bytes, perhaps none or all.
 use Rattle.std.specs.Prelude.{◌≡◌, ◌<◌, ◌≤◌, ◌⊎◌, ℕ, List, [], length, Option, Result, Ok, Err}
 use Rattle.std.specs.Io.KnownBytes.{Appends, Consumes, IsAtEnd}
 use Rattle.lt_jar.specs.Devices.{HasFailed, failures_of, inner_of, last_given_of}
@@ -25,8 +26,8 @@ pub record IsStoppedByRead {I : Type 0} (T : Terms) (input input' : Device I) (r
   pub failed : HasFailed input input'
   pub owed : AfterMark T (TalliesToLastFeed T tallies) read written
 
--- the most reads that a run may make were made, each gave a byte at least, also the last; what is owed up to the last
--- line feed was written
+-- the most reads that a run may make were made, they gave at least as many bytes, the last gave some; what is owed up
+-- to the last line feed was written, and the tallies count its refused lines
 pub record IsStoppedByTurns {I : Type 0} (T : Terms)
     (input' : Device I) (reads : ℕ) (read written : List ℕ) (tallies : List Tally) : Type 0 where
   pub all_made : reads ≡ most_reads
@@ -35,27 +36,27 @@ pub record IsStoppedByTurns {I : Type 0} (T : Terms)
   pub owed : AfterMark T (TalliesToLastFeed T tallies) read written
 
 -- the reader's bytes end within quotes; what is owed for the records before the unfinished one, which begins in this
--- line, was written
+-- line, was written and tallied
 pub record IsStoppedByQuotes {I : Type 0} (T : Terms) (remaining : I → Option (List ℕ)) (input' : Device I)
     (read written : List ℕ) (tallies : List Tally) (line : ℕ) : Type 0 where
   pub end : IsAtEnd (remaining (inner_of input'))
   pub ends : AfterMark T (TalliesInQuotes T line tallies) read written
 
--- the row or record that begins in this line is too long; what is owed for those before it was written
+-- the row or record that begins in this line is too long; what is owed for those before it was written and tallied
 pub record IsStoppedByLength (T : Terms) (read written : List ℕ) (tallies : List Tally) (f : ToolFault)
     (line : ℕ) : Type 0 where
   pub named : f ≡ long_fault T.form line
   pub ends : AfterMark T (TalliesTooLong T line tallies) read written
 
--- the bytes begin with a byte order mark of UTF-16, before rows or records, and nothing was written
+-- the bytes begin with a byte order mark of UTF-16, before rows or records, and nothing was written or tallied
 pub record IsStoppedByMark (T : Terms) (read written : List ℕ) (tallies : List Tally) : Type 0 where
   pub looked : MayHaveMark T.form
   pub wide : IsWide read
   pub nothing : written ≡ []
   pub none : tallies ≡ []
 
--- how a run ended that read the bytes `read` in `reads` reads: with its counts, or with a fault; an end by OutOfMemory
--- says nothing more
+-- How a run ended that read the bytes `read` in `reads` reads: with its counts, or with a fault. Of an end by Write
+-- only the failure of the output is said, and of an end by OutOfMemory nothing.
 abbrev pub EndsAs : {I O : Type 0} → Terms → (I → Option (List ℕ))
     → (input input' : Device I) → (output output' : Device O)
     → ℕ → (read written : List ℕ) → List Tally → Result Counts ToolFault → Type 0
@@ -75,8 +76,9 @@ EndsAs T remaining input input' output output' reads read written tallies (Err f
 EndsAs T remaining input input' output output' reads read written tallies (Err faults.Write) = HasFailed output output'
 EndsAs T remaining input input' output output' reads read written tallies (Err faults.OutOfMemory) = Unit {0}
 
--- A run over the lines of a reader. Whatever ended it, what was written is a front of what is owed. The tallies are
--- those of the lines that were answered, but where a write or memory failed. The result names a device that failed
+-- A run over the lines of a reader: it read the bytes `read` in `reads` reads, at most 10,000,000. Whatever ended it,
+-- `written` is a front of what is owed (`begun`). The tallies are those of the lines that were answered, unless a write
+-- failed or memory ran out. If the count of failures of the input or the output rises, the result says so
 -- (`read_rises`, `write_rises`). `remaining` gives the bytes that a reader has left, and `contents` those that an
 -- output was given; `input'` and `output'` are the reader and the output after the run.
 pub record RunsLines {I O : Type 0} (T : Terms) (remaining : I → Option (List ℕ)) (contents : O → Option (List ℕ))

@@ -46,7 +46,7 @@ pub record OwesToLastFeed (R : List EntryParts) (bytes written : List ℕ) : Typ
   pub last_one : IsOneLine last
   pub owes : Owes R lines written
 
--- `written` is a front of what is owed for the first lines of the bytes
+-- `written` is a front, that is, the first bytes, of `all`, which is owed for some first lines of the bytes
 pub record OwesFront (R : List EntryParts) (bytes written : List ℕ) : Type 0 where
   pub lines : List (List ℕ)
   pub others : List (List ℕ)
@@ -55,8 +55,8 @@ pub record OwesFront (R : List EntryParts) (bytes written : List ℕ) : Type 0 w
   pub owes : Owes R lines all
   pub front : Begins written all
 
--- how a run ended that read the bytes `read` in `reads` reads: with its counts, or by one of these four faults, no
--- other
+-- how a run ended that read the bytes `read` in `reads` reads: with its counts, or by one of these four faults and no
+-- other, and how much of what is owed was written
 abbrev pub EndsTags : {I O : Type 0} → List EntryParts → (I → Option (List ℕ)) → (input input' : Device I)
     → (output output' : Device O) → ℕ → (read written : List ℕ) → Result Counts ToolFault → Type 0
 EndsTags R remaining input input' output output' reads read written (Ok counts) =

@@ -43,7 +43,8 @@ pub record IsFieldText (S : Separator) (before : ℕ) (row text : List ℕ) : Ty
 abbrev pub IsFieldOrNone : Separator → ℕ → (row text : List ℕ) → Type 0
 IsFieldOrNone S before row text = IsFieldText S before row text ⊎ (HasFewer S before row × (text ≡ []))
 
--- the text of a line that is read as a tag
+-- the text that is read as a tag in a line: the line itself without a carriage return that ends it, or the text of a
+-- row's field, or nothing if the row has fewer fields
 abbrev pub IsTagIn : LineForm → (line text : List ℕ) → Type 0
 IsTagIn forms.Tag line text = text ≡ content_of line
 IsTagIn (forms.Row row) line text = IsFieldOrNone separators.Tab row.before (content_of line) text
@@ -100,8 +101,8 @@ TalliesTooLong T line tallies bytes written =
 
 -- ---- the steps
 
--- a refused line, whose number is `number` and whose answer is `bytes`, was added to the tallies `old`, which gives
--- `new`, where fewer than 2 to the 64 lines were refused with it
+-- A refused line, whose number is `number` and whose answer is `bytes`, was added to the tallies `old`, which gives
+-- `new`. That is so for all lines that `old` may be the tallies of, if they are fewer than 2 to the 64 with this one.
 pub record CountsLine (form : LineForm) (number : ℕ) (line bytes : List ℕ) (old new : List Tally) : Type 0 where
   pub one : Refused
   pub is_refused : IsRefusedAs form number line bytes one
@@ -114,7 +115,7 @@ abbrev pub CountsIf : LineForm → ℕ → (line bytes : List ℕ) → Bool → 
 CountsIf form number line bytes false old new = new ≡ old
 CountsIf form number line bytes true old new = CountsLine form number line bytes old new
 
--- a line so far: the bytes that are kept of it, or this part of a piece where none are
+-- a line so far: the bytes that are kept of it, or this part of a piece if none are kept
 abbrev pub line_at : (kept part : List ℕ) → List ℕ
 line_at [] part = part
 line_at (byte ∷ kept) part = byte ∷ kept

@@ -1,5 +1,5 @@
-//! The line that answers a text, appended to the answers `lines`. What is told of a refusal is its name, and its place
-//! or the variant that steps can repeat.
+//! The line that answers a text, appended to the answers `lines`. Of a refusal its name is told, and then the place of
+//! the fault or the variant that steps can repeat.
 ghost use Rattle.std.specs.Prelude.{◌≡◌, ◌≤◌, ◌++◌, IfOk, OnOk, vec_len};
 ghost use Rattle.std.specs.Fmt.{decimal};
 ghost use Rattle.lt_jar.specs.Lines.{content_of};
@@ -61,7 +61,8 @@ pub(crate) fn without_return(line: &[u8]) -> &[u8]
 
 /// Appends the line that answers a text, its canonical text or `! ` and its refusal, and tells whether it was refused.
 /// `ends` are the ends of canonical texts, for example `-u-nu-latn`, that were found lately. If they are right
-/// (`AreEnds`), so is the answer (`owed`), and they stay so (`ends`). By `grown` the answer begins where `lines` ended.
+/// (`AreEnds`), so is the answer (`owed`), and they stay right (`ends`). In any case `lines` gets no shorter (`grown`).
+/// Refused where memory runs out.
 #[tactic(auto, using(crate::proofs::TextLemmas::canonical_reply))]
 pub(crate) fn append_answer<L: Lookup>(
     lines: &mut Vec<u8>,

@@ -1,5 +1,6 @@
-//! The line that answers a row, appended to the answers `lines`. A row is kept (`--keep`) where it stays as it is, and
-//! two fields are added; else the canonical text replaces that of its field, and one field is added.
+//! The line that answers a row, appended to the answers `lines`. A row is kept (`--keep`) if it stays as it is and two
+//! fields are added; else the canonical text replaces the text of its field, and one field is added. `recent` has the
+//! answers that were given lately; they are right (`AreRecent`) if each is the answer that is owed for its text.
 ghost use Rattle.std.specs.Prelude.{◌≡◌, ◌≤◌, ◌++◌, ◌&&◌, [], IfOk, OnOk, length, take};
 ghost use Rattle.lt_jar.specs.Lines.{content_of};
 ghost use Rattle.lt_rows.specs.Looks.{HasTextAt, IsLookAt};
@@ -58,8 +59,8 @@ fn append_longer(
 }
 
 /// Ends the answer to a row, after its canonical text: appends `after`, a separator with an empty field (no fault), and the
-/// line end of `line`. `after` is the rest of the row where the canonical text stands in the field of the tag; it is empty
-/// where the row stayed as it was (`--keep`).
+/// line end of `line`. `after` is the rest of the row behind the text of its tag, if the canonical text replaced that;
+/// it is empty if the row was kept (`--keep`).
 #[inline(always)]
 fn end_answered(
     lines: &mut Vec<u8>,
@@ -75,8 +76,7 @@ fn end_answered(
 }
 
 /// Ends the answer to a row that is refused: appends `text`, a separator with a field that says why, and the line end of
-/// `line`. `text` is the rest of the row, from the text of its field on; it is empty where the row stayed as it was
-/// (`--keep`).
+/// `line`. `text` is the rest of the row, from the text of its tag on; it is empty if the row was kept (`--keep`).
 #[inline(never)]
 fn end_refused(
     lines: &mut Vec<u8>,
@@ -96,8 +96,8 @@ fn end_refused(
 
 /// Appends a row as it is, and two fields after it: the canonical text of its tag and an empty one, or an empty one and
 /// why the tag is refused. Tells whether it is refused. The tag is the first `count` bytes of `text` (which must have
-/// so many); what follows them is for speed alone, as 32 bytes are taken at once. `line` is the line of the row. If
-/// `recent` is right, the answer is, and `recent` stays right.
+/// so many); what follows them changes no answer, but lets 32 bytes be looked at together. `line` is the line of the
+/// row. If the answers in `recent` are right, so is this one, and they stay right.
 #[inline(never)]
 fn append_kept<L: Lookup>(
     lines: &mut Vec<u8>,
@@ -132,9 +132,9 @@ fn append_kept<L: Lookup>(
 
 /// Appends the answer to a row whose tag stands at `place`, and tells whether the tag is refused. The row's line is the
 /// first `count` bytes of `text` (which must have so many), and must have no carriage return outside of quotes but one
-/// that ends it. What follows them is for speed alone, as 32 bytes are taken at once. If `recent` is right, the answer
-/// is, and `recent` stays right. `LineForm.Row` stands in the clauses for both forms, as the same is kept of the fields
-/// of rows and of records of CSV.
+/// that ends it. What follows them changes no answer, but lets 32 bytes be looked at together. If the answers in
+/// `recent` are right, so is this one, and they stay right. `LineForm.Row` stands in the clauses for both forms, as the
+/// same is kept of the fields of rows and of records of CSV.
 #[inline(always)]
 fn append_found<L: Lookup>(
     lines: &mut Vec<u8>,
@@ -178,9 +178,9 @@ fn append_found<L: Lookup>(
     }
 }
 
-/// Looks at a row whose front was kept from an earlier piece, so that it isn't known what its bytes lack. The row's
-/// line is the first `count` bytes of `text` (which must have so many), and `before` is how many fields come before
-/// that of the tag.
+/// Looks at a row whose front was kept from an earlier piece, so that it isn't known whether its bytes lack carriage
+/// returns or quotes. The row's line is the first `count` bytes of `text` (which must have so many), and `before` is
+/// how many fields come before that of the tag.
 #[inline(never)]
 fn look_at_kept(separator: Separator, before: usize, text: &[u8], count: usize) -> Look
     requires { count ≤ length text.now }
@@ -189,9 +189,9 @@ fn look_at_kept(separator: Separator, before: usize, text: &[u8], count: usize) 
     look_at_row(separator, UNKNOWN, before, text, count)
 }
 
-/// What the look at a row found: `look`, or, where there was none before, a look at the first `count` bytes of `text`
-/// (which must have so many). `look` must be one at the same bytes for the same field. `before` is how many fields come
-/// before that of the tag.
+/// What the look at a row found: `look`, or, if it is None, a look at the first `count` bytes of `text` (which must
+/// have so many). `look` must be one at the same bytes for the same field. `before` is how many fields come before that
+/// of the tag.
 #[inline(always)]
 fn looked_at(
     separator: Separator,
@@ -212,9 +212,9 @@ fn looked_at(
 
 /// Appends the answer to a row, and tells whether it is refused: `BadReturn` and `NoColumn` are told in its last field,
 /// and so is the refusal of its tag. The row's line is the first `count` bytes of `text` (which must have so many);
-/// what follows them is for speed alone, as up to 64 bytes are taken at once. `look` must be the look at it, if there
-/// was one. If `recent` is right, the answer is, and `recent` stays right; `LineForm.Row` stands in the clauses for
-/// both forms of rows.
+/// what follows them changes no answer, but lets up to 64 bytes be looked at together. `look` must be the look at it,
+/// if there was one. If the answers in `recent` are right, so is this one, and they stay right; `LineForm.Row` stands
+/// in the clauses for both forms of rows.
 #[inline(always)]
 fn append_row<L: Lookup>(
     lines: &mut Vec<u8>,
@@ -251,8 +251,9 @@ fn append_row<L: Lookup>(
     }
 }
 
-/// Appends the answer to a heading, with the names of the fields that are added, `langtag` (if rows are kept) and
-/// `langtag_fault`, and tells whether it is refused, as it is with `BadReturn`.
+/// Appends the answer to `line`, a heading: the heading, and the names of the fields that are added, `langtag` (only if
+/// rows are kept) and `langtag_fault`. Tells whether the heading is refused. It is, with `BadReturn`, if a carriage
+/// return is in it outside of quotes.
 #[inline(never)]
 fn append_heading(
     lines: &mut Vec<u8>,
@@ -279,11 +280,11 @@ fn append_heading(
     Ok(false)
 }
 
-/// Appends the answer to a line, and tells whether it is refused. The line is a heading if `is_first`, as the first of
-/// all is, and the form has one; each other is a row. It is the first `count` bytes of `text` (which must have so
-/// many); what follows them is for speed alone, as up to 64 bytes are taken at once. `look` must be the look at it, if
-/// there was one. If `recent` is right, the answer is, and `recent` stays right; `LineForm.Row` stands in the clauses
-/// for both forms of rows.
+/// Appends the answer to a line, and tells whether it is refused. The line is a heading if it is the first of all
+/// (`is_first`) and the form has one; else it is a row. It is the first `count` bytes of `text` (which must have so
+/// many); what follows them changes no answer, but lets up to 64 bytes be looked at together. `look` must be the look
+/// at it, if there was one. If the answers in `recent` are right, so is this one, and they stay right; `LineForm.Row`
+/// stands in the clauses for both forms of rows.
 #[inline(always)]
 pub(crate) fn append_among<L: Lookup>(
     lines: &mut Vec<u8>,

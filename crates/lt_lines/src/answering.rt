@@ -1,5 +1,7 @@
-//! Answering lines that come in pieces. Of an unfinished line the bytes so far are kept, and answers that are not yet
-//! written are owed. The `terms` of clauses are the registry's entries, the codes and the form of lines.
+//! Answering lines that come in pieces. Of an unfinished line the first bytes, its front, are kept, and answers that
+//! are not yet written are owed. The `terms` of clauses are the registry's entries, the codes and the form of lines. A
+//! look at a row is what was found of it before it is answered (`line_looks`). `recent` has the answers that were given
+//! lately; they are right (`AreRecent`) if each is the answer that is owed for its text.
 ghost use Rattle.std.specs.Prelude.{◌≡◌, ◌≤◌, ◌+◌, ◌++◌, ◌∷◌, ◌↔◌, List, ℕ, [], false, IfOk, IsTrue, OnOk, length, take, vec_len};
 ghost use Rattle.lt_jar.specs.Lines.{IsOneLine};
 ghost use Rattle.lt_registry.specs.Parts.{EntryParts};
@@ -35,17 +37,17 @@ const LONGEST_KEPT: usize = 1027;
 /// The most bytes of a row or a record, which is kept whole: 16 MiB.
 const LONGEST_ROW: usize = 16_777_216;
 
-/// The answers that wait are written once they are this many bytes, if no read comes before.
+/// Answers wait to be written until they are this many bytes, or until the next read.
 const FULL: usize = 65536;
 
 /// Lines that come in pieces, and the answers that are owed for them.
 #[derive(Drop)]
 pub(crate) struct Answering {
-    /// The front of the line that no line feed ended so far.
+    /// The front of the last line, which no line feed ended so far.
     kept: Vec<u8>,
-    /// The place after that: a line feed within quotes does not end it.
+    /// The place at the end of the kept bytes, within quotes or outside: a line feed within quotes ends no record.
     place: Place,
-    /// The line feeds so far.
+    /// How many line feeds came so far.
     feeds: u64,
     /// Answers that wait to be written.
     owed: Vec<u8>,
@@ -56,8 +58,8 @@ pub(crate) struct Answering {
     recent: RecentAnswers,
 }
 
-/// Keeps a further part of a line. Of a line that is a tag, `LONGEST_KEPT` bytes in all are kept at most, which
-/// `part_kept` counts on from the bytes that are kept already.
+/// Appends a further part of a line to the bytes that are kept of it. Of a line that is a tag, at most `LONGEST_KEPT`
+/// bytes are kept in all, and the rest of `part` is dropped.
 fn keep(form: LineForm, kept: &mut Vec<u8>, part: &[u8]) -> Result<(), AllocError>
     ensures { OnOk result (kept.new.items ≡ kept.old.items ++ spec.part_kept form (vec_len kept.old) part.now) }
 {
@@ -70,7 +72,7 @@ fn keep(form: LineForm, kept: &mut Vec<u8>, part: &[u8]) -> Result<(), AllocErro
     }
 }
 
-/// The fault of a row or a record that is too long, by the number of the line in which it begins.
+/// The fault of a row or a record that is too long, with the number of the line in which it begins.
 fn long_fault(form: LineForm, line: u64) -> ToolFault
     ensures { result ≡ owed.long_fault form line }
 {
@@ -81,9 +83,9 @@ fn long_fault(form: LineForm, line: u64) -> ToolFault
 }
 
 /// Appends the answer to a line, and tells whether it was refused. The line is the first `count` bytes of `text` (which
-/// must have so many); what follows them is for speed alone, as up to 64 bytes are taken at once. `is_first` is whether
-/// it is the first of all, so that it may be a heading, and `look` must be the look at it, if there was one. If
-/// `recent` is right, the answer is, and `recent` stays right.
+/// must have so many); what follows them changes no answer, but lets up to 64 bytes be looked at together. `is_first`
+/// is whether it is the first of all, so that it may be a heading, and `look` must be the look at it, if there was one.
+/// If the answers in `recent` are right, so is this one, and they stay right.
 #[tactic(auto, using(crate::proofs::TextLemmas::csv_recent))]
 #[inline(always)]
 fn append_reply<L: Lookup>(
@@ -140,9 +142,9 @@ fn append_reply<L: Lookup>(
 }
 
 /// Appends the answer to a line of which a front was kept, and tells whether it was refused. The line is what is in
-/// `kept` and then `part`, which is kept too; `is_first` is whether it is the first of all. By `owed` the answer is
-/// that to each line with this front, since of a long tag the rest isn't kept. If `recent` is right, the answer is, and
-/// `recent` stays right.
+/// `kept` and then `part`, which is kept too; `is_first` is whether it is the first of all. By `owed` this answers each
+/// line of which these bytes are kept, since of a long tag the rest isn't kept. If the answers in `recent` are right,
+/// so is this one, and they stay right.
 #[inline(never)]
 fn append_kept_line<L: Lookup>(
     lines: &mut Vec<u8>,
@@ -160,7 +162,7 @@ fn append_kept_line<L: Lookup>(
     ensures recent { OnOk result (spec.AreRecent (L.listed basis.now.checked.now) form recent.old → spec.AreRecent (L.listed basis.now.checked.now) form recent.new) }
 {
     keep(form, kept, part)?;
-    // So that the form of the codes is known.
+    // This does nothing but tell the proof what form codes have.
     basis.know_codes();
     append_reply(
         lines,
@@ -176,10 +178,10 @@ fn append_kept_line<L: Lookup>(
 }
 
 /// Appends the answer to a line, and tells whether it was refused. The line is what is in `kept` and then the first
-/// `count` bytes of `text` (which must have so many), which are kept too if anything was. What follows them is for
-/// speed alone, as up to 64 bytes are taken at once. `is_first` is whether it is the first of all. `look` must be the
-/// look at it, and there must be none if anything is kept. If `recent` is right, the answer is, and `recent` stays
-/// right.
+/// `count` bytes of `text` (which must have so many), which are kept too if anything was. What follows them changes no
+/// answer, but lets up to 64 bytes be looked at together. `is_first` is whether it is the first of all. `look` must be
+/// the look at it, and there must be none if anything is kept. If the answers in `recent` are right, so is this one,
+/// and they stay right.
 #[inline(always)]
 fn append_line<L: Lookup>(
     lines: &mut Vec<u8>,
@@ -225,7 +227,8 @@ fn line_at<'a>(kept: &'a [u8], part: &'a [u8]) -> &'a [u8]
 }
 
 impl Answering {
-    /// No bytes were taken so far, and no answers wait. `recent` is empty, so it is right by any entries and form.
+    /// The state before any byte is taken: no answers wait, and nothing is counted. `recent` is empty, so it is right
+    /// by any entries and form.
     pub(crate) fn new(alloc: Global) -> Answering
         ensures items { (result.kept.items ≡ []) × (result.owed.items ≡ []) }
         ensures place { (result.place ≡ Place.Fresh) × (result.feeds ≡ 0) }
@@ -248,10 +251,11 @@ impl Answering {
     }
 
     /// Answers the line that ends after the first `count` bytes of `text` (which must have so many), counts it, and
-    /// keeps nothing of it. What follows these bytes is for speed alone, as up to 64 bytes are taken at once. `look`
-    /// must be the look at the line, and there must be none if a front of the line was kept. The counts must have room
-    /// for a line more. By `taken`, if these end a whole line, a state that was right for what was read and written so
-    /// far is right with them and a line feed (10) too. By `counted` the counts lose room for one line at most.
+    /// keeps nothing of it. What follows these bytes changes no answer, but lets up to 64 bytes be looked at together.
+    /// `look` must be the look at the line, and there must be none if a front of the line was kept. The counts must
+    /// have room for one more line, below 2^64. By `taken`, if these bytes end a whole line, a state that was right for
+    /// what was read and written so far is right after them and a line feed (10) too. By `counted` one line feed was
+    /// counted, and at most one line.
     #[inline(always)]
     fn answer_line<L: Lookup>(
         &mut self,
@@ -300,7 +304,7 @@ impl Answering {
     }
 
     /// Keeps `part`, the bytes before a line feed that is within quotes, and the line feed. The counts must have room
-    /// for a line more.
+    /// for one more line, below 2^64.
     #[inline(never)]
     fn go_on(&mut self, form: LineForm, part: &[u8]) -> Result<(), OutOfMemory>
         requires { spec.HasRoom self.old 1 }
@@ -314,11 +318,11 @@ impl Answering {
     }
 
     /// Takes the first `count` bytes of `text` (which must have so many) and the line feed after them: answers the row
-    /// or the record that they end, or keeps them if the line feed is within quotes. What follows in `text` is for
-    /// speed alone, as up to 64 bytes are taken at once. `lacks` must be true of the `count` bytes: it is what they are
-    /// known to lack. The counts must have room for a line more. By `taken`, if these have no line feed (10) and don't
-    /// make the row too long, a state that was right for what was read and written so far is right with them too. By
-    /// `counted` one line feed was counted, and at most one line as answered.
+    /// or the record that they end, or keeps them if the line feed is within quotes. What follows in `text` changes no
+    /// answer, but lets up to 64 bytes be looked at together. `lacks` must be true of the `count` bytes: it is what
+    /// they are known to lack. The counts must have room for one more line, below 2^64. By `taken`, if these bytes have
+    /// no line feed (10) and don't make the row too long, a state that was right for what was read and written so far
+    /// is right with them too. By `counted` one line feed was counted, and at most one line as answered.
     #[inline(never)]
     fn end_row<L: Lookup>(
         &mut self,
@@ -345,11 +349,11 @@ impl Answering {
     }
 
     /// Takes the first `count` bytes of `text` (which must have so many) and the line feed after them: answers the line
-    /// that they end, or keeps them if the line feed is within the quotes of a record. What follows in `text` is for
-    /// speed alone, as up to 64 bytes are taken at once. `lacks` must be true of the `count` bytes: it is what they are
-    /// known to lack. The counts must have room for a line more. By `taken`, if these have no line feed (10) and don't
-    /// make the line too long, a state that was right for what was read and written so far is right with them too. By
-    /// `counted` one line feed was counted, and at most one line as answered.
+    /// that they end, or keeps them if the line feed is within the quotes of a record. What follows in `text` changes
+    /// no answer, but lets up to 64 bytes be looked at together. `lacks` must be true of the `count` bytes: it is what
+    /// they are known to lack. The counts must have room for one more line, below 2^64. By `taken`, if these bytes have
+    /// no line feed (10) and don't make the line too long, a state that was right for what was read and written so far
+    /// is right with them too. By `counted` one line feed was counted, and at most one line as answered.
     #[inline(always)]
     fn end_line<L: Lookup>(
         &mut self,
@@ -375,9 +379,8 @@ impl Answering {
         }
     }
 
-    /// Writes the answers that wait, so that none do then. Refused if the write fails. By `writes` what was written and
-    /// what still waits is what waited, or, where the write fails, a front of what waited was written; by `emptied`
-    /// nothing waits unless it fails.
+    /// Writes the answers that wait, so that none waits then (`emptied`). Refused if the write fails: then the first
+    /// bytes of what waited were written, perhaps none (`writes`).
     fn write<W: Write>(&mut self, output: &mut Device<W>) -> Result<(), ToolFault>
         ensures writes { spec.WritesOwed W.contents self.old self.new output.old output.new result }
         ensures emptied { OnOk result (self.new.owed.items ≡ []) }
@@ -412,7 +415,7 @@ impl Answering {
     }
 
     /// The number of the line, counted from 1, in which the kept part of a row or a record begins. The counts must have
-    /// room for a line more.
+    /// room for one more line, below 2^64.
     fn kept_from(&self) -> u64
         requires { spec.HasRoom self.now 1 }
         ensures { result ≡ spec.line_of self.now }
@@ -421,8 +424,9 @@ impl Answering {
         self.feeds.saturating_sub(within as u64) + 1
     }
 
-    /// Ends the run at a row or a record that is too long: writes the answers that wait, and gives the fault, which is
-    /// that of the write if it fails. The counts must have room for a line more.
+    /// Ends the run at a row or a record that is too long: writes the answers that wait, and gives the fault, which
+    /// names the line in which the row begins; or `Write`, if the write fails. The counts must have room for one more
+    /// line, below 2^64.
     #[inline(never)]
     fn stop_long<W: Write>(&mut self, form: LineForm, output: &mut Device<W>) -> ToolFault
         requires { spec.HasRoom self.old 1 }
@@ -436,8 +440,8 @@ impl Answering {
 
     /// Takes `piece`, the next bytes of the input, answers the lines that they end, and writes the answers. A last line
     /// without a line feed is kept for the next piece. Refused at a row or a record that is too long, and where memory
-    /// or a write fails. The counts must have room for a line more than `piece` has bytes, each of which may be a line
-    /// feed.
+    /// runs out or a write fails. The counts must have room for one line more than `piece` has bytes, each of which may
+    /// be a line feed.
     pub(crate) fn take_piece<L: Lookup, W: Write>(
         &mut self,
         alloc: Global,
@@ -468,8 +472,8 @@ impl Answering {
     }
 
     /// Answers a last line that has no line feed, if there is one. What is kept is the whole line: no bytes follow, and
-    /// there was no look. The text must not end within quotes, and the counts must have room for a line more. Then all
-    /// lines are answered of what was read so far, if the state was right for that.
+    /// there was no look. The text must not end within quotes, and the counts must have room for one more line, below
+    /// 2^64. Then all lines are answered of what was read so far, if the state was right for that.
     fn end_last<L: Lookup>(
         &mut self,
         alloc: Global,
@@ -488,8 +492,8 @@ impl Answering {
     }
 
     /// Answers a last line without a line feed, if there is one, writes the answers that wait, and gives the counts.
-    /// Refused where memory or a write fails. The text must not end within quotes, and the counts must have room for a
-    /// line more.
+    /// Refused where memory runs out or a write fails. The text must not end within quotes, and the counts must have
+    /// room for one more line, below 2^64.
     fn finish_closed<L: Lookup, W: Write>(
         &mut self,
         alloc: Global,
@@ -507,8 +511,8 @@ impl Answering {
     }
 
     /// Answers a last line without a line feed, if there is one, writes the answers that wait, and gives the counts.
-    /// Refused with `BadCsv` if the text ends within quotes, and where memory or a write fails. The counts must have
-    /// room for a line more.
+    /// Refused with `BadCsv` if the text ends within quotes, and where memory runs out or a write fails. The counts
+    /// must have room for one more line, below 2^64.
     pub(crate) fn finish<L: Lookup, W: Write>(
         &mut self,
         alloc: Global,

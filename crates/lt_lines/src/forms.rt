@@ -6,10 +6,10 @@ pub struct RowForm {
     /// How many fields are before the one that is a tag.
     pub before: usize,
     /// Whether the first row is a heading. No tag is looked for in it: it is answered by itself and the names of the
-    /// fields that are added, `langtag_fault`, or `langtag` and `langtag_fault` where rows are kept.
+    /// fields that are added, `langtag_fault`, or `langtag` and `langtag_fault` if rows are kept.
     pub has_heading: bool,
-    /// Whether a row stays as it is, and two fields are added: the tag's canonical text, which is empty where the row is
-    /// refused, and why it is refused, which is empty where it is not.
+    /// Whether rows are kept. Then each row stays as it is, and two fields are added: the tag's canonical text, which
+    /// is empty if the row is refused, and why the row is refused, which is empty if it is not.
     pub is_kept: bool,
 }
 
@@ -19,16 +19,17 @@ pub enum LineForm {
     /// A tag; a carriage return that ends the line is no part of it. It is answered by its canonical text, or
     /// by `! ` and why it is refused: `zh-yue` by `yue`, and `en_US` by `! BadByte 1`.
     Tag,
-    /// A row of fields with a tab between them, one of them a tag; a carriage return that ends the line is no part of its
-    /// last field, and a byte order mark at the beginning of the first none of that. Where rows are not kept, it is answered
-    /// by the row with the tag's canonical text in its place, and one field more, which is empty; or by the row as it is,
-    /// and one field more that says why: why the tag is refused, or `NoColumn` where there are too few fields.
+    /// A row of fields with a tab between them, one of them a tag. A carriage return that ends the line is no part of
+    /// its last field, and a byte order mark of UTF-8 before the first row is no part of that row. If rows are not
+    /// kept, the answer is the row with the canonical text in the place of the tag, and a further field, which is
+    /// empty. If the tag is refused, the answer is the row as it is, and the further field says why; if there are too
+    /// few fields, it says `NoColumn`.
     Row(RowForm),
-    /// A record of CSV (RFC 4180, 2): a line, or lines where line feeds are within quotes. It is answered as a row is, with
-    /// this byte between its fields, a comma in RFC 4180; one within quotes parts none. A quote begins quoted text where a
-    /// field begins, and where a quote has just ended some; elsewhere it is a byte like any other. The text of a field
-    /// with a quote at both ends is what is between them, and they stay. A record with a carriage return outside of
-    /// quotes, but for one that ends its line, stays as it is, a heading too, and its last field is `BadReturn`: some
-    /// programs end a record there, and others none.
+    /// A record of CSV (RFC 4180, 2): a line, or several lines if line feeds are within quotes. It is answered as a row
+    /// is. This byte, a comma in RFC 4180, parts its fields, except within quotes. A quote begins quoted text where a
+    /// field begins, and right after the quote that ended quoted text; elsewhere it is a byte like any other. If a
+    /// field has a quote at both ends, its text is what is between them, and the quotes stay. A record (also a heading)
+    /// with a carriage return outside of quotes, except at the end of its line, is refused: it stays as it is, and its
+    /// last field is `BadReturn`, since some programs end a record there and others don't.
     Csv(RowForm, u8),
 }

@@ -11,13 +11,14 @@ use crate::answer_lines::without_return;
 use crate::forms::LineForm;
 use lt_rows::{Lacks, Look, Place, Separator, after_text, lacks_of, look_at};
 
-/// Nothing is known of what a text lacks.
+/// What is known to be lacking in a text of which nothing is known: neither carriage returns nor quotes.
 pub(crate) const UNKNOWN: Lacks = Lacks {
     returns: false,
     quotes: false,
 };
 
-/// What the lines of a piece are known to lack. Only records of CSV are looked through for it.
+/// Which bytes the lines of a piece are known to lack: carriage returns and quotes. Only pieces of CSV are looked
+/// through for them; of other pieces nothing is known.
 pub(crate) fn lacks_in(form: LineForm, piece: &[u8]) -> Lacks
     ensures { IsKnownToLack piece.now result }
 {
@@ -28,8 +29,8 @@ pub(crate) fn lacks_in(form: LineForm, piece: &[u8]) -> Lacks
 }
 
 /// Looks at a row for the field that comes after `before` others. The row's line is the first `count` bytes of `text`
-/// (which must have so many); what follows them is for speed alone, as 64 bytes are taken at once. `lacks` must be true
-/// of the line: it is what the line is known to lack.
+/// (which must have so many); what follows them changes no answer, but lets 64 bytes be looked at together. `lacks`
+/// must be true of the line: it is what the line is known to lack.
 #[tactic(auto, using(crate::proofs::LookLemmas::content_short))]
 #[inline(always)]
 pub(crate) fn look_at_row(
@@ -48,8 +49,8 @@ pub(crate) fn look_at_row(
 }
 
 /// Looks at a line of `form`, the first `count` bytes of `text` (which must have so many), before it is answered. What
-/// follows them is for speed alone, as 64 bytes are taken at once. `lacks` must be true of the line: it is what the
-/// line is known to lack. None if it is no row or record, or if `kept` has a front of it.
+/// follows them changes no answer, but lets 64 bytes be looked at together. `lacks` must be true of the line: it is
+/// what the line is known to lack. None if it is no row or record, or if `kept` has a front of it.
 #[inline(always)]
 pub(crate) fn look_ahead(
     form: LineForm,

@@ -19,13 +19,13 @@ use std::io::Write;
 pub(crate) struct Marked {
     /// The first bytes, while they may be a part of a mark.
     front: Vec<u8>,
-    /// Whether the mark, if there is one, is written, and what follows goes to the answers.
+    /// Whether the mark, if there is one, is written, so that all bytes that follow are answered as lines.
     is_begun: bool,
     pub(crate) answering: Answering,
 }
 
-/// Whether a byte order mark is looked for before lines of this form: before rows and records, and not before tags, each of
-/// which is answered as it is.
+/// Whether a byte order mark is looked for before lines of this form. It is before rows and records. It is not before
+/// tags, each of which is answered as it is.
 fn may_have_mark(form: LineForm) -> bool
     ensures { IsTrue result ↔ MayHaveMark form }
 {
@@ -36,7 +36,7 @@ fn may_have_mark(form: LineForm) -> bool
 }
 
 impl Marked {
-    /// A text whose lines have this form, of which no bytes were taken so far. As nothing is answered yet, the clause
+    /// The state of a text whose lines have this form, before any byte is taken. As nothing is answered yet, the clause
     /// holds for any registry and codes (`terms`) with this form.
     pub(crate) fn new(alloc: Global, form: LineForm) -> Marked
         ensures { (terms : Terms) → terms.form ≡ form → IsNew terms result }
@@ -51,8 +51,8 @@ impl Marked {
     }
 
     /// Splits the first bytes, which are kept, into a byte order mark, if there is one, and text: writes the mark, and
-    /// answers the lines of the text. Refused at a row or a record that is too long, and where memory or a write fails. The
-    /// counts must have room for a line more than bytes are kept.
+    /// answers the lines of the text. Refused at a row or a record that is too long, and where memory runs out or a
+    /// write fails. The counts must have room for one line more than bytes are kept.
     fn begin<L: Lookup, W: Write>(
         &mut self,
         alloc: Global,
@@ -71,10 +71,10 @@ impl Marked {
         Ok(())
     }
 
-    /// Takes the next bytes of the input, answers the lines that they end, and writes the answers. The first bytes wait until
-    /// it is known whether they are a byte order mark. Refused with `Utf16` at that of UTF-16, at a row or a record that is
-    /// too long, and where memory or a write fails. The counts must have room for the lines of the kept bytes and of `piece`,
-    /// and one more.
+    /// Takes the next bytes of the input, answers the lines that they end, and writes the answers. The first bytes wait
+    /// until it is known whether they are a byte order mark. Refused with `Utf16` at a byte order mark of UTF-16, at a
+    /// row or a record that is too long, and where memory runs out or a write fails. The counts must have room for one
+    /// line for each byte that is kept or in `piece`, and one more.
     pub(crate) fn take_piece<L: Lookup, W: Write>(
         &mut self,
         alloc: Global,
@@ -99,9 +99,9 @@ impl Marked {
         self.begin(alloc, basis, form, output)
     }
 
-    /// Answers a last line without a line feed, if there is one, writes the answers that wait, and gives the counts. Refused
-    /// with `BadCsv` if the text ends within quotes, and where memory or a write fails. The counts must have room for the
-    /// lines of the kept bytes, and one more.
+    /// Answers a last line without a line feed, if there is one, writes the answers that wait, and gives the counts.
+    /// Refused with `BadCsv` if the text ends within quotes, and where memory runs out or a write fails. The counts
+    /// must have room for one line for each byte that is kept, and one more.
     pub(crate) fn finish<L: Lookup, W: Write>(
         &mut self,
         alloc: Global,

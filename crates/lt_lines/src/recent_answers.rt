@@ -1,5 +1,5 @@
-//! Answers that were given lately, which are given again. They are right (`AreRecent`) where each is the answer to its
-//! text.
+//! Answers that were given lately, so that they are not worked out again. They are right (`AreRecent`) if each is the
+//! answer that is owed for its text.
 ghost use Rattle.std.specs.Prelude.{◌≡◌, ◌≤◌, false, IfOk, IsTrue, List, MatchOption, OnOk, length, take};
 ghost use Rattle.lt_registry.specs.Parts.{EntryParts};
 ghost use Rattle.lt_codes.specs.Codes.{registered_text};
@@ -16,7 +16,8 @@ use lt_registry::Lookup;
 use lt_tag::OutOfMemory;
 use std::alloc::{AllocError, Global};
 
-/// Answers that were given lately: those to whole texts, lines or fields, and ends of canonical texts.
+/// Answers that were given lately: those to whole texts (lines or fields), and canonical ends of texts, for example
+/// `-u-nu-latn`.
 #[derive(Drop)]
 pub(crate) struct RecentAnswers {
     whole: Recent,
@@ -24,7 +25,7 @@ pub(crate) struct RecentAnswers {
 }
 
 impl RecentAnswers {
-    /// No answers so far, and so none that is wrong, by whatever entries R and form.
+    /// No answers so far, so that they are right by any entries `R` and form.
     pub(crate) fn new(alloc: Global) -> RecentAnswers
         ensures { (R : List EntryParts) (form : LineForm) → AreRecent R form result }
     {
@@ -35,8 +36,8 @@ impl RecentAnswers {
     }
 }
 
-/// The text with its first subtag replaced by what the table has for it. None if the table has no such code: the text
-/// stays as it is.
+/// The text with the code that is its first subtag replaced by the subtag that the table has for the code. None if the
+/// table has no such code, so that the text stays as it is. Refused where memory runs out.
 fn replaced_text(
     alloc: Global,
     codes: &CodeTable,
@@ -53,8 +54,8 @@ fn replaced_text(
 }
 
 /// Appends the answer to a tag, and tells whether it was refused. The tag is the first `count` bytes of `text` (which
-/// must have so many), read with the basis's table of codes if there is one; what follows them is for speed alone, as
-/// 32 bytes are taken at once. If `recent` is right, the answer is, and `recent` stays right.
+/// must have so many), read with the basis's table of codes if there is one; what follows them changes no answer, but
+/// lets 32 bytes be looked at together. If the answers in `recent` are right, so is this one, and they stay right.
 pub(crate) fn append_again<L: Lookup>(
     lines: &mut Vec<u8>,
     alloc: Global,
@@ -76,8 +77,8 @@ pub(crate) fn append_again<L: Lookup>(
 }
 
 /// Appends the answer to a tag, the first `count` bytes of `text` (which must have so many), read with the codes of a
-/// table, and tells whether it was refused. What follows in `text` is for speed alone, as 32 bytes are taken at once.
-/// If `recent` is right, the answer is, and `recent` stays right.
+/// table, and tells whether it was refused. What follows in `text` changes no answer, but lets 32 bytes be looked at
+/// together. If the answers in `recent` are right, so is this one, and they stay right.
 #[inline(never)]
 fn append_replaced<L: Lookup>(
     lines: &mut Vec<u8>,
@@ -101,9 +102,9 @@ fn append_replaced<L: Lookup>(
 }
 
 /// Appends the answer to a tag, the first `count` bytes of `text` (which must have so many), and tells whether it was
-/// refused. A text whose subtags stay as they are is answered at once. Another answer that was given lately is not
-/// worked out again: if `text` has at least 32 bytes, it is looked for without a copy. If `recent` is right, the answer
-/// is, and `recent` stays right.
+/// refused. A text of the usual form (a language, perhaps a script, and perhaps a region) whose subtags stay as they
+/// are is answered at once. Another answer that was given lately is not worked out again: if `text` has at least 32
+/// bytes, it is looked for without a copy. If the answers in `recent` are right, so is this one, and they stay right.
 #[inline(always)]
 fn append_read<L: Lookup>(
     lines: &mut Vec<u8>,
@@ -125,8 +126,9 @@ fn append_read<L: Lookup>(
     append_found(lines, alloc, checked, recent, text, count)
 }
 
-/// Appends the answer to a text whose subtags stay as they are, and gives true. For any other text it does nothing and
-/// gives false.
+/// Appends the answer to a text of the usual form whose subtags stay as they are, for example `zh-Hant-TW`, and gives
+/// true. For any other text it appends nothing and gives false. Refused where memory runs out. The usual form is that
+/// of `append_usual_text`: a language, perhaps a script, and perhaps a region.
 #[tactic(auto, using(crate::proofs::TextLemmas::canonical_reply))]
 #[inline(always)]
 fn append_usual_answer<L: Lookup>(
@@ -146,8 +148,8 @@ fn append_usual_answer<L: Lookup>(
 
 /// Appends the answer to a tag, the first `count` bytes of `text` (which must have so many), and tells whether it was
 /// refused. An answer that was given lately is taken; any other is worked out and put with those. What follows in
-/// `text` is for speed alone, as 32 bytes are taken at once. If `recent` is right, the answer is, and `recent` stays
-/// right.
+/// `text` changes no answer, but lets 32 bytes be looked at together. If the answers in `recent` are right, so is this
+/// one, and they stay right.
 fn append_found<L: Lookup>(
     lines: &mut Vec<u8>,
     alloc: Global,
@@ -177,7 +179,8 @@ fn append_found<L: Lookup>(
 
 /// Appends the canonical text of a field and gives None, or gives why it is refused. The field is the first `count`
 /// bytes of `rest` (which must have so many), read with the basis's table of codes if there is one; what follows them
-/// is for speed alone, as 32 bytes are taken at once. If `recent` is right, the answer is, and `recent` stays right.
+/// changes no answer, but lets 32 bytes be looked at together. If the answers in `recent` are right for rows of the
+/// form `row`, which only the clauses use, so is this one, and they stay right.
 #[inline(always)]
 pub(crate) fn append_field<L: Lookup>(
     lines: &mut Vec<u8>,
@@ -203,8 +206,9 @@ pub(crate) fn append_field<L: Lookup>(
 }
 
 /// Appends the canonical text of a field, the first `count` bytes of `rest` (which must have so many) read with the
-/// codes of a table, and gives None, or gives why it is refused. What follows in `rest` is for speed alone, as 32 bytes
-/// are taken at once. If `recent` is right, the answer is, and `recent` stays right.
+/// codes of a table, and gives None, or gives why it is refused. What follows in `rest` changes no answer, but lets 32
+/// bytes be looked at together. If the answers in `recent` are right for rows of the form `row`, which only the clauses
+/// use, so is this one, and they stay right.
 #[inline(never)]
 fn append_replaced_field<L: Lookup>(
     lines: &mut Vec<u8>,
@@ -231,9 +235,10 @@ fn append_replaced_field<L: Lookup>(
 }
 
 /// Appends the canonical text of a field, the first `count` bytes of `rest` (which must have so many), and gives None,
-/// or gives why it is refused. A field whose subtags stay as they are is answered at once. Another canonical text that
-/// was found lately is not worked out again: if `rest` has at least 32 bytes, it is looked for without a copy. If
-/// `recent` is right, the answer is, and `recent` stays right.
+/// or gives why it is refused. A field of the usual form (a language, perhaps a script, and perhaps a region) whose
+/// subtags stay as they are is answered at once. Another canonical text that was found lately is not worked out again:
+/// if `rest` has at least 32 bytes, it is looked for without a copy. If the answers in `recent` are right for rows of
+/// the form `row`, which only the clauses use, so is this one, and they stay right.
 #[inline(always)]
 fn append_read_field<L: Lookup>(
     lines: &mut Vec<u8>,
@@ -258,8 +263,9 @@ fn append_read_field<L: Lookup>(
 
 /// Appends the canonical text of a field, the first `count` bytes of `rest` (which must have so many), and gives None,
 /// or gives why it is refused. A canonical text that was found lately is taken; any other is worked out and put with
-/// those. What follows in `rest` is for speed alone, as 32 bytes are taken at once. Not inlined, so that the way of a
-/// field that stays is short. If `recent` is right, the answer is, and `recent` stays right.
+/// those. What follows in `rest` changes no answer, but lets 32 bytes be looked at together. If the answers in `recent`
+/// are right for rows of the form `row`, which only the clauses use, so is this one, and they stay right. It is not
+/// inlined, so that the code of its caller, which a field that stays as it is takes, is short.
 #[inline(never)]
 fn append_found_field<L: Lookup>(
     lines: &mut Vec<u8>,
@@ -276,7 +282,7 @@ fn append_found_field<L: Lookup>(
     ensures recent { OnOk result (AreRecent (L.listed checked.now) (LineForm.Row row) recent.old
         → AreRecent (L.listed checked.now) (LineForm.Row row) recent.new) }
 {
-    // Of fields canonical texts alone are put there: what is found is no refusal, and `false` is put.
+    // For fields only canonical texts are put there, each with `false`: so what is found is never a refusal.
     if let Some(found) = recent.whole.find(rest, count) {
         found.answer.append_to(lines)?;
         recent.whole.note_again();

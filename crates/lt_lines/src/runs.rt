@@ -17,12 +17,12 @@ use std::alloc::Global;
 use std::io::{Read, Write};
 use std::mem;
 
-/// What a run over lines did.
+/// How many lines a run answered, and how many of them it refused.
 #[derive(Clone, Copy, Debug, PartialEq, Eq)]
 pub struct Counts {
     /// The lines that were answered.
     pub lines: u64,
-    /// Those of them of which the tag was refused, or was not there.
+    /// How many of these were refused: for their tag, or with `NoColumn` or `BadReturn`.
     pub refused: u64,
 }
 
@@ -51,7 +51,8 @@ struct Reading<'a, L: Lookup> {
 impl<'a, L: Lookup, W: Write> Pieces<Device<W>> for Reading<'a, L> {
     type Answer = Counts;
 
-    /// Between two pieces the basis and the form are those of the beginning, and the answers that are due are written.
+    /// Between two pieces the basis and the form are those of the beginning, and the answers to all whole lines so far
+    /// are written.
     ghost taken = { λ first start now read here. (terms (ground_of L.listed here.basis.now) here.form ≡ terms (ground_of L.listed first.basis.now) first.form)
         × spec.IsReading (terms (ground_of L.listed first.basis.now) first.form) W.contents start now read here.text };
 
@@ -61,9 +62,9 @@ impl<'a, L: Lookup, W: Write> Pieces<Device<W>> for Reading<'a, L> {
     /// At the end all that is owed is written and counted, or a fault ended the run.
     ghost finished = { λ first start now read here result. spec.EndsReading (terms (ground_of L.listed first.basis.now) first.form) W.contents start now read here.text.answering.tallies result };
 
-    /// Answers the lines that the piece ends, and writes the answers. Refused with `Utf16` at a byte order mark of UTF-16,
-    /// with `BadTsv` or `BadCsv` at a row or a record that is too long, and where memory or a write fails. Only a refusal
-    /// ends the run here.
+    /// Answers the lines that the piece ends, and writes the answers. Refused with `Utf16` at a byte order mark of
+    /// UTF-16, with `BadTsv` or `BadCsv` at a row or a record that is too long, and where memory runs out or a write
+    /// fails. Else it gives None, since only a refusal ends the run here.
     fn take_piece(
         &mut self,
         alloc: Global,
@@ -76,21 +77,22 @@ impl<'a, L: Lookup, W: Write> Pieces<Device<W>> for Reading<'a, L> {
     }
 
     /// Answers a last line without a line feed, if there is one, writes the answers that wait, and gives the counts of
-    /// lines. Refused with `BadCsv` if the text ends within quotes, and where memory or a write fails.
+    /// lines. Refused with `BadCsv` if the text ends within quotes, and where memory runs out or a write fails.
     fn finish(&mut self, alloc: Global, output: &mut Device<W>) -> Result<Counts, ToolFault> {
         self.text.finish(alloc, self.basis, self.form, output)
     }
 }
 
 /// Answers each line of a reader by one line, in order, each ended by a line feed, as its form says. A tag is answered by its
-/// canonical text; or by `! `, the name of the fault and its place; or by `! ReplacementRepeats ` and the variant in lower
-/// case. If the basis has codes, a text is read with what is registered for its first subtag in the place of that; what is
-/// refused is shown as it is.
+/// canonical text; or by `! `, the name of the fault and its place; or by `! ReplacementRepeats ` and the variant in
+/// lower case. If the basis has a code that is the first subtag of a text, the text is read with the registered subtag
+/// in its place; a text that is refused is shown as it was given, in its row and in the tallies.
 ///
 /// A line feed ends a line, in CSV only outside of quotes. What follows the last line feed is a line too, unless it is empty.
-/// What is owed for the lines of the bytes that were read is written before the next read. A row or a record is kept whole
-/// until it is answered. A byte order mark of UTF-8 before rows or records is written as it is, and is no part of the first.
-/// `tallies` is what was refused of the lines that were answered, by fault; after `Write` and `OutOfMemory` it says nothing.
+/// Before each read the answers to all lines that ended so far are written. A row or a record is kept whole until it is
+/// answered. A byte order mark of UTF-8 before rows or records is written as it is, and is no part of the first.
+/// `tallies` is replaced by the tallies of this run: how many of the lines that it answered were refused, by fault.
+/// After `Write` and `OutOfMemory` they say nothing.
 ///
 /// - `BadCsv`, if the reader's bytes end within the quotes of a record, or a record is longer than 16,777,216 bytes: the
 ///   records before it have been answered.
@@ -99,7 +101,8 @@ impl<'a, L: Lookup, W: Write> Pieces<Device<W>> for Reading<'a, L> {
 ///   looked for, and each line is answered as it is.
 /// - `Read`, if a read fails: what is owed for each line whose line feed was read has been written.
 /// - `TooManyTurns`, if all 10,000,000 reads were made and the last gave bytes: as much has been written as after `Read`.
-/// - `Write`, if a write fails or takes none of some bytes, and `OutOfMemory`: a front of what is owed was written.
+/// - `Write`, if a write fails or takes none of some bytes, and `OutOfMemory`, if memory runs out: the first bytes of
+///   what is owed have been written, perhaps none.
 pub fn run_tallied<L: Lookup, R: Read, W: Write>(
     alloc: Global,
     basis: &Basis<'_, L>,
@@ -121,12 +124,13 @@ pub fn run_tallied<L: Lookup, R: Read, W: Write>(
 }
 
 /// Answers each line of a reader, which is a tag, by one line, in order, each ended by a line feed: its canonical text; or
-/// `! `, the name of the fault and its place; or `! ReplacementRepeats ` and the variant in lower case. It is [`run_tallied`]
-/// for tags, without a table of codes, and forgets the tallies.
+/// `! `, the name of the fault and its place; or `! ReplacementRepeats ` and the variant in lower case. It is
+/// [`run_tallied`] for tags, without a table of codes and without tallies.
 ///
 /// - `Read`, if a read fails: what is owed for each line whose line feed was read has been written.
 /// - `TooManyTurns`, if all 10,000,000 reads were made and the last gave bytes: as much has been written as after `Read`.
-/// - `Write`, if a write fails or takes none of some bytes, and `OutOfMemory`: a front of what is owed was written.
+/// - `Write`, if a write fails or takes none of some bytes, and `OutOfMemory`, if memory runs out: the first bytes of
+///   what is owed have been written, perhaps none.
 pub fn run_lines<L: Lookup, R: Read, W: Write>(
     alloc: Global,
     checked: &Checked<L>,

@@ -1,4 +1,5 @@
-//! What is counted of a line that is refused.
+//! Counting the lines that are refused, by fault: the fault's name and the text that is refused are read off the line
+//! and its answer.
 ghost use Rattle.std.specs.Prelude.{◌≡◌, OnOk, nat_le, position};
 ghost use Rattle.lt_lines.specs.Tallied as spec;
 ghost use Rattle.lt_lines.specs.Tallied.{CountsIf, CountsLine, IsFieldOrNone, IsTagIn};
@@ -12,8 +13,8 @@ use std::alloc::{AllocError, Global};
 /// The most bytes that are shown of a text that is refused; a longer one is cut, so that a summary is short.
 const MOST_SHOWN: usize = 64;
 
-/// How many separators are between a row as it was and what a refusal tells: two where rows are kept, as an empty field is
-/// between them, and else one.
+/// How many separators are between a row as it was and what a refusal tells: two if rows are kept, since an empty field
+/// is between them, else one.
 fn separators_in(row: RowForm) -> usize
     ensures { result ≡ spec.separators_in row }
 {
@@ -35,7 +36,7 @@ fn told_in<'a>(form: LineForm, line: &[u8], answer: &'a [u8]) -> &'a [u8]
     &answer[before.min(answer.len())..]
 }
 
-/// Where the name ends with which `told` begins: at the first byte that is a space (32) or below. None if no byte is.
+/// Where the name at the beginning of `told` ends: at the first byte that is a space (32) or below. None if no byte is.
 fn name_end(told: &[u8]) -> Option<usize>
     ensures { result ≡ position (λ byte. nat_le byte 32) told.now }
 {
@@ -79,8 +80,8 @@ fn tag_in(form: LineForm, line: &[u8]) -> &[u8]
     }
 }
 
-/// Counts a line that `answer` refuses, by the name of its fault. `number` is the line's own, counted from 1: it and
-/// the front of the line's tag are kept of the first line of each fault.
+/// Counts a line that `answer` refuses, by the name of its fault. Of the first line of each fault its `number`, counted
+/// from 1, and the first 64 bytes of its tag are kept. Refused where memory runs out.
 #[inline(never)]
 fn count_line(
     tallies: &mut Tallies,
@@ -97,7 +98,8 @@ fn count_line(
     tallies.count(alloc, fault_in(form, line, answer), number, shown)
 }
 
-/// Counts a line if `answer` refuses it, as `refused` tells. `number` is the line's own, counted from 1.
+/// Counts a line if `refused` is true, that is, if `answer` refuses it. `number` is the line's own, counted from 1.
+/// Refused where memory runs out.
 #[inline(always)]
 pub(crate) fn count_if(
     tallies: &mut Tallies,

@@ -1,4 +1,5 @@
--- Where the first field of the rest of a row ends, which is what is left of the row behind fields that are skipped.
+-- Lemmas for the functions of `rows` that find a field. The rest of a row is what is left of it behind the fields that
+-- are skipped. The lemmas say where the first field of a rest ends, and from where to where this field goes in the row.
 use Rattle.std.proofs.Common.{refl, ◌≡◌, ◌≢◌, ◌≤◌, ◌<◌, ◌+◌, ◌-◌, ◌↔◌, ◌++◌, [], ◌∷◌, ◌∙◌, ℕ, zero, suc, Bool, true}
 use Rattle.std.proofs.Common.{false, IsTrue, List, Option, Some, None, inl, inr, length, sym, ap, arith, subst, take}
 use Rattle.std.proofs.Common.{drop, get_or, ne_eqb, append_assoc, append-nil, length-append, take-append-drop}
@@ -19,7 +20,7 @@ use Rattle.lt_rows.proofs.RowLemmas.{free_of_none, place_at-append, quoted_of_fr
 
 -- lemmas on CSV whose delimiter is the byte d
 module _ (d : ℕ) where
-  -- after a byte of a row without line feeds that is no delimiter, outside of quotes, a field goes on plain
+  -- outside of quotes, after a byte that is neither a delimiter nor a line feed (10), a field goes on plain
   plain_after : (byte : ℕ) → byte ≢ d → byte ≢ 10 → place_outside d byte ≡ places.Plain
   plain_after byte other feed = rw (ne_eqb byte 10 feed, ne_eqb byte d other) refl
 
@@ -85,8 +86,8 @@ line_end d row (Some i) first line p = (
   p.2,
 )
 
--- Where the first field ends of a rest that has no line feeds and begins with no quote (34), as `quoted` tells: at the
--- first delimiter. The rest is the first `count` bytes of a text.
+-- The first field of a rest that has no line feeds and begins with no quote (34), as `quoted` tells, ends at the first
+-- delimiter. The rest is the first `count` bytes of a text.
 pub line_end_of : (d : ℕ) (text : List ℕ) (count : ℕ) (quoted : Bool) (end : Option ℕ) → count ≤ length text
     → IsTrue quoted ↔ ((0 < count) × (get_or text 0 0 ≡ 34)) → quoted ≡ false
     → IsFreeOf 10 (take count text) → IsPlaceOf d (take count text) end → EndsField (separators.Delimiter d) (take count text) end
@@ -98,7 +99,7 @@ line_end_of d text count quoted end within tells is line p = line_end d (take co
         let yes : quoted ≡ true = says.1 (omega arith, sym (get_or-take (suc n) text 0 0 (omega arith)) ∙ e) in
         let bad : true ≡ false = sym yes ∙ is in cc
 
--- a rest that begins with a field and a separator: its first field ends behind that field
+-- in a rest that begins with a field and a separator, the first field ends behind that field
 pub end_by_parts : (S : Separator) (row field more : List ℕ) → IsEnded S field → row ≡ field ++ separator S ∷ more
     → EndsField S row (Some (length field))
 end_by_parts S row field more ended split =
@@ -177,8 +178,8 @@ module _ (d : ℕ) (text : List ℕ) (count : ℕ) (some : 0 < count) (le : coun
 
 -- ---- fields that are skipped
 
--- what is left of a row behind `at`, as slices of the text whose first `count` bytes are the row, is the row without
--- its first `at` bytes
+-- the rest of a row behind the place `at`, as slices of the text whose first `count` bytes are the row, is the row
+-- without its first `at` bytes
 pub left_is : (text : List ℕ) (count at : ℕ) → at ≤ count → take (count - at) (take (length text - at) (drop at text))
     ≡ drop at (take count text)
 left_is text count at le = ap (take (count - at)) (take_rest text at) ∙ sym (drop-take at (count - at) text)

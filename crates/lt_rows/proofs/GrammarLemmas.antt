@@ -1,4 +1,5 @@
--- A text that no line feed outside of quotes parts, and that does not end within quotes, is a record of the grammar.
+-- One half of the law `records_are_those_of_the_grammar`: a text that no line feed outside of quotes parts, and that
+-- does not end within quotes, is a record of the grammar of RFC 4180. RecordLemmas has the other half.
 use Rattle.std.proofs.Common.{refl, ◌≡◌, ◌≢◌, ◌++◌, [], ◌∷◌, ◌∙◌, ◌⊎◌, ℕ, true, false, List, sym, ap, subst, inl, inr}
 use Rattle.std.proofs.Common.{append_assoc, ne_eqb, ◌==◌, ◌||◌, if◌then◌else◌}
 use Rattle.std.specs.List.{AllByRecursion}
@@ -8,7 +9,7 @@ use Rattle.lt_rows.specs.Records.{IsBody, IsClosedRecord, IsCsvField, IsCsvRecor
 use Rattle.lt_rows.specs.declared.quotes.Place.{Place}
 use Rattle.lt_rows.specs.declared.quotes.Place.TheVariants as places
 
--- a byte that is no quote (34), in front of text between a field's quotes
+-- text between a field's quotes stays such text with a byte in front of it that is no quote (34)
 body-cons : (byte : ℕ) (body : List ℕ) → byte ≢ 34 → IsBody body → IsBody (byte ∷ body)
 body-cons byte [] other is = other
 body-cons byte (next ∷ body) other is = inl (other, is)
@@ -54,7 +55,7 @@ module _ (d : ℕ) (unquoted : d ≢ 34) where
     pub text_is : text ≡ 34 ∷ inner
     pub has : HasBody inner
 
-  -- what the text is, by the place where its first byte stands
+  -- what the text is read as, by the place where its first byte stands
   abbrev Parsed : Place → List ℕ → Type 0
   Parsed places.Fresh text = HasPlainField text ⊎ HasQuote text
   Parsed places.Plain text = HasPlain text
@@ -83,7 +84,7 @@ module _ (d : ℕ) (unquoted : d ≢ 34) where
         ∙ sym (append_assoc q.has.body (34 ∷ q.has.rest) (further d q.has.others.fields)));
   }
 
-  -- a delimiter in front of a text that begins with a field: further fields
+  -- a text that begins with a field, with a delimiter in front of it, is further fields
   from_delimiter : (text : List ℕ) → HasPlainField text ⊎ HasQuote text → IsFurther (d ∷ text)
   from_delimiter text p =
       let r = as_record text p in
@@ -98,7 +99,8 @@ module _ (d : ℕ) (unquoted : d ≢ 34) where
   pub outside_other : (byte : ℕ) → byte ≢ d → byte ≢ 10 → place_outside d byte ≡ places.Plain
   outside_other byte other feed = rw (ne_eqb byte 10 feed, ne_eqb byte d other) refl
 
-  -- a text whose line feeds (10) are all within quotes, and whose end is not, is parsed from any place on
+  -- a text whose line feeds (10) are all within quotes, and whose end is not, is read as `Parsed` says, from any place
+  -- on
   parsed : (place : Place) (text : List ℕ) → IsFreeOutside d 10 place text → is_quoted (place_at d place text) ≡ false → Parsed place text
   parsed places.Fresh [] free closed = inl (record { plain = []; more = []; text_is = refl; is_plain = tt; others = none })
   parsed places.Plain [] free closed = record { plain = []; more = []; text_is = refl; is_plain = tt; others = none }

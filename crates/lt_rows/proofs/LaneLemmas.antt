@@ -1,4 +1,5 @@
--- The places of a byte among 64 bytes, which are looked at together, as the bits of a number.
+-- Lemmas for the functions of `lanes`, which look at 64 bytes together. The bits of a number that a comparison gives
+-- are the places of a byte among them, and blocks of 64 add up to what is found, or counted, in a whole text.
 use Rattle.std.proofs.Common.{◌≡◌, ◌≢◌, ◌≤◌, ◌<◌, ◌+◌, ◌-◌, ◌==◌, ◌++◌, ◌↔◌, ◌∙◌, ℕ, Bool, true, false, List, Some}
 use Rattle.std.proofs.Common.{None, inl, inr, length, map, cond, refl, sym, ap, arith, bit_or, count_by, subst, take}
 use Rattle.std.proofs.Common.{drop, get_or, take-add, take-append-drop}

@@ -1,4 +1,5 @@
--- What `look_at` finds in a row: whether it ends within quotes, and where the text of a field is.
+-- Lemmas for `look_at`, which finds in one look whether a row ends within quotes, and where the text of a field is:
+-- what it finds is true of the row.
 use Rattle.std.proofs.Common.{refl, ◌≡◌, ◌≢◌, ◌≤◌, ◌+◌, ◌-◌, ◌++◌, [], ◌∷◌, ◌∙◌, ℕ, false, List, length, sym, ap, arith}
 use Rattle.std.proofs.Common.{subst, take, drop, append_assoc, length-append, take-append-drop}
 use Rattle.std.proofs.Math.Seq.{take-append_seam, drop-append_seam}
@@ -37,7 +38,8 @@ rest_slice start count text le = sym (drop-take start (count - start) text) ∙ 
 
 -- lemmas on CSV whose delimiter is the byte d, which is no quote (34)
 module _ (d : ℕ) (unquoted : d ≢ 34) where
-  -- the place after fields that separators end, and a rest, is that after the rest alone: it begins as a field does
+  -- the place after fields that separators end, and a rest, is the place after only the rest, since the rest begins
+  -- where a field does
   fresh_after : (fields : List (List ℕ)) (rest : List ℕ) → AllByRecursion (IsEnded (separators.Delimiter d)) fields
       → place_at d places.Fresh (separated (separators.Delimiter d) fields ++ rest) ≡ place_at d places.Fresh rest
   fresh_after [] rest each = refl

@@ -1,4 +1,5 @@
--- What the first bytes of a text say of its byte order mark.
+-- Lemmas on byte order marks, for `marks` and for texts that come in pieces: once the first bytes of a text can't be a
+-- part of a mark any more, no bytes that follow change which mark the text has.
 use Rattle.std.proofs.Common.{◌≡◌, ◌≢◌, ◌<◌, ◌++◌, ◌∷◌, ◌==◌, ◌∙◌, ◌⊎◌, ℕ, List, [], Bool, true, length, ap, refl}
 use Rattle.std.proofs.Common.{subst, arith, append_assoc, append-nil, length-append, drop, take, inl, inr, All}
 use Rattle.std.specs.Cmp.Lexicographic.{pointwise}
@@ -8,12 +9,12 @@ use Rattle.std.proofs.lemmas.Bool.Decides.{Decides-eqb}
 use Rattle.std.proofs.lemmas.List.Elements.{All-cons, All-head, All-tail}
 use Rattle.lt_rows.specs.Marks.{Begins, IsShortOf, IsWide, MayBeMark, SplitsMark, big_mark, little_mark, utf8_mark}
 
--- a text with which a mark begins, and which is shorter, is the beginning of the mark that lacks a byte
+-- if a mark begins with a text and is longer, the text is a front of the mark that lacks at least one byte
 pub short_is : (mark text : List ℕ) → length text < length mark → Begins text mark → IsShortOf mark text
 short_is mark text less (([], e)) = absurd (omega (arith, less, ap length e, ap length (append-nil text)))
 short_is mark text less ((byte ∷ rest, e)) = (byte, rest, e)
 
--- the beginning of a mark that lacks a byte is shorter than the mark
+-- a front of a mark that lacks at least one byte is shorter than the mark
 pub short_length : (mark text : List ℕ) → IsShortOf mark text → length text < length mark
 short_length mark text h = omega (arith, ap length h.2, length-append text (h.0 ∷ h.1))
 
@@ -25,7 +26,7 @@ head e = cc
 tail : {a b : ℕ} {ms ns : List ℕ} → a ∷ ms ≡ b ∷ ns → ms ≡ ns
 tail e = cc
 
--- where a text with more bytes behind it begins with a mark, the text does so itself, or is a beginning of the mark
+-- where a text with more bytes behind it begins with a mark, the text itself does so, or is a shorter front of the mark
 begins_append : (mark front more : List ℕ) → Begins mark (front ++ more) → Begins mark front ⊎ IsShortOf mark front
 begins_append [] front more h = inl (front, refl)
 begins_append (byte ∷ mark) [] more h = inr (byte, mark, refl)

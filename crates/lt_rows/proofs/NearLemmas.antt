@@ -1,4 +1,5 @@
--- Where a byte is among the first bytes of a text, of which more are looked at.
+-- Lemmas for `place_within` and `is_free_of_both`, which search the first `count` bytes of a text but look at more,
+-- since a search takes 32 bytes together: what is found there tells where a byte is among the first `count`.
 use Rattle.std.proofs.Common.{◌≡◌, ◌≢◌, ◌≤◌, ◌<◌, ◌+◌, ◌==◌, ◌||◌, ◌++◌, ◌∷◌, ◌∙◌, ℕ, List, length, sym, ap, arith}
 use Rattle.std.proofs.Common.{subst, take, drop, get_or, add-one, take-append-drop, inl, inr, refl}
 use Rattle.std.proofs.Math.Seq.{drop-cons}
@@ -21,11 +22,11 @@ module _ (count : ℕ) (text near : List ℕ) (is : IsNear count text near) wher
   front_is : take count near ≡ take count text
   front_is = ap (take count) is.3 ∙ take-take count is.0 text is.1
 
-  -- `near` has as many bytes as `IsNear` says
+  -- `near` has as many bytes as `IsNear` says, at least `count`
   long : length near ≡ is.0
   long = ap length is.3 ∙ length-take-le is.0 text is.2
 
-  -- the first `count` bytes of the text are so many
+  -- the text has `count` bytes, so that its first `count` bytes are so many
   pub row_long : length (take count text) ≡ count
   row_long = length-take-le count text (omega (arith, is.1, is.2))
 
@@ -69,9 +70,9 @@ module _ (count : ℕ) (text near : List ℕ) (is : IsNear count text near) wher
 
   -- ---- two bytes
 
-  -- lemmas on two bytes that are searched together
+  -- lemmas on two bytes, `one` and `other`, that are searched together
   module _ (one other : ℕ) where
-    -- one of them is at this place of `near`
+    -- one of the two is at this place of `near`
     abbrev either : ℕ → Type 0
     either = Passes (is_byte2 one other) near
 

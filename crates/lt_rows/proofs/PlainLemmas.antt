@@ -1,4 +1,5 @@
--- Rows in which each separator parts fields.
+-- Lemmas for `plain_field_at` and `short_field_at`, which find a field in a plain row: one in which each separator
+-- parts fields, so that fields end at the next places of the separator.
 use Rattle.std.proofs.Common.{◌≡◌, ◌≢◌, ◌≤◌, ◌<◌, ◌+◌, ◌-◌, ◌==◌, [], ◌∷◌, ◌∙◌, ℕ, zero, suc, List, Option, Some, None}
 use Rattle.std.proofs.Common.{inl, inr, length, sym, ap, arith, subst, take, drop, get_or}
 use Rattle.std.proofs.lemmas.Bool.{eq-eqb, eqb-true, cases_Bool}
@@ -120,7 +121,7 @@ no_quote : (row : List ℕ) → IsFreeOf 34 row → get_or row 0 0 ≡ 34 → �
 no_quote [] free e = absurd (omega (arith, e))
 no_quote (byte ∷ row) free e = free 0 0 (omega arith) e
 
--- in what is left of a plain row, the first separator is where the first field ends
+-- in the rest of a plain row, the first separator is where the first field ends
 pub plain_end : (S : Separator) (start : ℕ) (row : List ℕ) (end : Option ℕ) → IsPlain S row
     → IsPlaceOf (rows.separator S) (drop start row) end → EndsField S (drop start row) end
 plain_end separators.Tab start row end plain p = tab_end (drop start row) end p

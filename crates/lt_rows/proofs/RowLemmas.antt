@@ -1,4 +1,5 @@
--- What is within quotes, records, and the fields of a row.
+-- Lemmas on the definitions of Quotes and Rows, which most other files use: which place (within quotes or outside)
+-- comes after a text, where records end, and what is left of a row behind skipped fields.
 use Rattle.std.specs.List.{AllByRecursion}
 use Rattle.std.proofs.Math.Bool.{and-false}
 use Rattle.std.proofs.Common.{refl, ◌≡◌, ◌≢◌, ◌<◌, ◌+◌, ◌-◌, ◌==◌, ◌++◌, [], ◌∷◌, ◌∙◌, ℕ, true, false, List, length}
@@ -15,7 +16,7 @@ use Rattle.lt_rows.specs.declared.rows.Separator.{Separator}
 
 -- lemmas on CSV with this delimiter
 module _ (delimiter : ℕ) where
-  -- the place after a text and more: the text leads to a place, and the more from there to the last
+  -- the place after a text and `more` is the one to which `more` leads from the place after the text
   pub place_at-append : (place : Place) (text more : List ℕ) → place_at delimiter place (text ++ more)
       ≡ place_at delimiter (place_at delimiter place text) more
   place_at-append place [] more = refl
@@ -33,14 +34,14 @@ module _ (delimiter : ℕ) where
       elim ((byte == 10) || (byte == delimiter)) as (λ t. is_quoted (if t then places.Fresh else places.Plain) ≡ false)
       [ true ↦ refl | false ↦ refl ]
 
-  -- outside of quotes, the place after a byte that is no quote (34) depends on this byte alone
+  -- outside of quotes, the place after a byte that is no quote (34) depends only on this byte
   pub after_other : (place : Place) (byte : ℕ) → is_quoted place ≡ false → byte ≢ 34
       → place_after delimiter place byte ≡ place_outside delimiter byte
   after_other places.Fresh byte closed other = rw (ne_eqb byte 34 other) refl
   after_other places.Plain byte closed other = refl
   after_other places.Quoted byte closed other = let bad : true ≡ false = closed in cc
 
-  -- outside of quotes, the place after a text without quotes depends on its last byte alone
+  -- outside of quotes, the place after a text without quotes depends only on its last byte
   pub place_of_free : (place : Place) (text : List ℕ) → is_quoted place ≡ false → All (λ (byte : ℕ). byte ≢ 34) text → 0 < length text
       → place_at delimiter place text ≡ place_outside delimiter (get_or text (length text - 1) 0)
   place_of_free place [] closed free some = absurd (omega arith)
@@ -59,7 +60,8 @@ module _ (delimiter : ℕ) where
   quoted_of_free (byte ∷ text) free =
       rw (ne_eqb byte 34 (All-head (λ (b : ℕ). b ≢ 34) byte text free)) (quoted_of_free text (All-tail (λ (b : ℕ). b ≢ 34) byte text free))
 
-  -- the place after a text with a quote (34) behind `front`: that after the quote, and then after what follows it
+  -- the place after a text with a quote (34) behind `front` is the one to which what follows the quote leads from the
+  -- place after the quote
   pub place_past_quote : (place : Place) (text front after : List ℕ) → text ≡ front ++ 34 ∷ after
       → place_at delimiter place text ≡ place_at delimiter (place_after delimiter (place_at delimiter place front) 34) after
   place_past_quote place text front after split = ap (place_at delimiter place) split ∙ place_at-append place front (34 ∷ after)
@@ -80,7 +82,7 @@ module _ (delimiter : ℕ) where
     free_of_none stop (place_after delimiter place byte) text (All-tail (λ (b : ℕ). b ≢ stop) byte text h),
   )
 
-  -- a byte that is no line feed (10) outside of quotes is the front of the text's first record
+  -- a byte in front of a text is the first of the text's first record, unless it is a line feed (10) outside of quotes
   begins : (place : Place) (byte : ℕ) (text : List ℕ) → (byte ≡ 10 → is_quoted place ≡ true)
       → records_from delimiter place (byte ∷ text)
       ≡ begin_first byte (records_from delimiter (place_after delimiter place byte) text)
@@ -109,7 +111,7 @@ module _ (delimiter : ℕ) where
 
   -- ---- the turns of a loop over bytes
 
-  -- the place after the first i + 1 bytes: that after the first i, and then after one byte more
+  -- the place after the first i + 1 bytes is the one to which one byte more leads from the place after the first i
   pub place_next : (place : Place) (text : List ℕ) (i : ℕ) → i < length text
       → place_at delimiter place (take (i + 1) text)
       ≡ place_after delimiter (place_at delimiter place (take i text)) (get_or text i 0)
@@ -144,7 +146,7 @@ pub each-last : {X : Type 0} (P : X → Type 0) (xs : List X) (x : X) → AllByR
 each-last P [] x h one = (one, tt)
 each-last P (y ∷ xs) x h one = (h.0, each-last P xs x h.1 one)
 
--- one field more, with the separator that ends it, after others
+-- fields and one field more, each with its separator, are the fields with theirs, and then that field with its own
 separated-append : (S : Separator) (fields : List (List ℕ)) (field : List ℕ) → separated S (fields ++ field ∷ [])
     ≡ separated S fields ++ (field ++ separator S ∷ [])
 separated-append S [] field = refl
@@ -153,11 +155,11 @@ separated-append S (f ∷ fields) field = rw (
   append_assoc f (separator S ∷ separated S fields) (field ++ separator S ∷ []),
 ) refl
 
--- no field is skipped, and the whole row is left
+-- where no field is skipped, the whole row is left
 pub skips_none : (S : Separator) (row : List ℕ) → Skips S 0 row row
 skips_none S row = record { before = []; each = tt; number = refl; row_is = refl }
 
--- one field more is skipped, which a separator ends in what is left; `after` is left then
+-- where what is left begins with a field that a separator ends, one field more can be skipped, and `after` is left then
 pub skips_more : (S : Separator) (count : ℕ) (row rest field after : List ℕ) → Skips S count row rest → IsEnded S field
     → rest ≡ field ++ separator S ∷ after → Skips S (count + 1) row after
 skips_more S count row rest field after s one split = record {

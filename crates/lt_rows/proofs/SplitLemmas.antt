@@ -1,4 +1,4 @@
--- Where a byte is first, as `split_first` finds it.
+-- Lemmas for `split_first`: what a search finds is the first place of a byte, and the text is cut there.
 use Rattle.std.proofs.Common.{refl, ◌≡◌, ◌≢◌, ◌≤◌, ◌<◌, ◌+◌, ◌-◌, ◌++◌, ◌∷◌, ◌∙◌, ℕ, List, length, length-append, sym}
 use Rattle.std.proofs.Common.{ap, arith, subst, take, drop, get_or, add-one, take-append-drop}
 use Rattle.std.proofs.Math.Seq.{drop-cons, get_or-append_seam, take-length}

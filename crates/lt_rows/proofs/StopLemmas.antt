@@ -1,4 +1,5 @@
--- A text that is looked through from one place of a byte to the next, as `split_outside` does.
+-- Lemmas for `split_outside`, which goes from one place of the byte `stop` to the next until one is outside of quotes:
+-- the text is split there, or no `stop` in it is outside of quotes.
 use Rattle.std.proofs.Common.{◌≡◌, ◌≤◌, ◌+◌, ◌-◌, ◌++◌, [], ◌∷◌, ◌∙◌, ℕ, true, false, List, length, sym, ap, arith}
 use Rattle.std.proofs.Common.{subst, take, drop, append_assoc, length-append, take-append-drop}
 use Rattle.std.proofs.Math.Seq.{take-append_seam}

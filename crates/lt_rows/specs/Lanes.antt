@@ -2,7 +2,7 @@
 use Rattle.std.specs.Prelude.{◌≡◌, ◌<◌, ◌≤◌, ◌↔◌, ℕ, List, length, slice_index}
 use Rattle.std.specs.Int.{bit_at}
 
--- Bit `k` of the number `bits` is set exactly where the byte stands at place `k` of the row, from the place `start` on.
+-- Bit `k` of the number `bits` is set exactly if the byte stands at place `k` of the row and `k` is `start` or more.
 -- The row is no longer than the 64 bits of a `u64`.
 pub record AreBitsFrom (byte start : ℕ) (row : List ℕ) (bits : ℕ) : Type 0 where
   pub short : length row ≤ 64

@@ -33,8 +33,8 @@ pub record LacksIn (row : List ℕ) (lacks : Lacks) : Type 0 where
   pub returns : IsTrue lacks.returns → IsFreeOf 13 row × IsFreeOf 10 row
   pub quotes : IsTrue lacks.quotes → IsFreeOf 34 row
 
--- Where the text of the field after `before` others is: from the byte `start` up to `end`. Around it are what is at
--- both of its ends, a quote or nothing, and the rest of the row.
+-- Where the text of the field after `before` others is: from the byte `start` up to `end`. In the row, `front` is what
+-- is before the field, and `after` what is behind it. `quotes`, a quote or nothing, is at both ends of the text.
 pub record HasTextAt (S : Separator) (before : ℕ) (row : List ℕ) (place : TextAt) : Type 0 where
   pub front : List ℕ
   pub field : List ℕ
@@ -56,7 +56,8 @@ IsFound S before row founds.Return = HasReturn S row
 IsFound S before row founds.Fewer = (HasReturn S row → ⊥) × HasFewer S before row
 IsFound S before row (founds.Text place) = (HasReturn S row → ⊥) × HasTextAt S before row place
 
--- what a look at a row, for the field after `before` others, found is true of the row
+-- what a look at a row found, for the field after `before` others, is true of the row: whether it ends within quotes
+-- (`ends`), and what it is answered by (`found`)
 pub record IsLookAt (S : Separator) (before : ℕ) (row : List ℕ) (look : Look) : Type 0 where
   pub ends : look.is_open ≡ ends_quoted S row
   pub found : IsFound S before row look.found

@@ -4,8 +4,8 @@ use Rattle.lt_rows.specs.Splitting.{IsFreeOf, IsPlaceOf}
 use Rattle.lt_rows.specs.declared.rows.Separator.{Separator}
 use Rattle.lt_rows.specs.declared.rows.Separator.TheVariants as separators
 
--- A row of TSV, or one of CSV with neither a line feed (10) nor a quote (34). A line feed would hide no separator
--- either, but what is proved of places (line_end in FieldLemmas) is of rows without one.
+-- A row of TSV, or a row of CSV with neither a line feed (10) nor a quote (34). A line feed would hide no separator
+-- either, but the proofs (line_end in FieldLemmas) are of rows without line feeds.
 abbrev pub IsPlain : Separator → List ℕ → Type 0
 IsPlain separators.Tab row = Unit {0}
 IsPlain (separators.Delimiter delimiter) row = IsFreeOf 10 row × IsFreeOf 34 row

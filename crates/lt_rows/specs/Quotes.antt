@@ -1,6 +1,6 @@
 -- Quotes (34): what is within them, and what is outside (RFC 4180, 2). A quote begins quoted text where a field begins,
--- and where a quote has just ended some: so a quote that is doubled within quotes ends them and begins them again. In
--- other places a quote is a byte like any other. A field begins after a delimiter: a comma (44) in RFC 4180.
+-- and right after the quote that ended quoted text: so a doubled quote within quotes ends them and begins them again.
+-- In other places a quote is a byte like any other. A field begins after a delimiter, a comma (44) in RFC 4180.
 use Rattle.std.specs.Prelude.{◌≡◌, ◌==◌, ◌||◌, ◌&&◌, ℕ, Bool, true, false, not, List, [], ◌∷◌, ◌++◌, Option}
 use Rattle.std.specs.Prelude.{MatchOption, if◌then◌else◌}
 use Rattle.std.specs.Borrow.{Bor}
@@ -14,8 +14,8 @@ is_quoted places.Fresh = false
 is_quoted places.Plain = false
 is_quoted places.Quoted = true
 
--- the place after a byte that is outside of quotes and begins none: a field begins after a delimiter and after a line
--- feed (10)
+-- the place after a byte that is outside of quotes and begins no quoted text, given the delimiter and the byte: a field
+-- begins after a delimiter and after a line feed (10)
 abbrev pub place_outside : ℕ → ℕ → Place
 place_outside delimiter byte = if (byte == 10) || (byte == delimiter) then places.Fresh else places.Plain
 

@@ -1,6 +1,6 @@
--- Records of CSV in the words of RFC 4180, 2: fields with a delimiter between them. Beyond it a plain field may have
--- quotes after its first byte, a field in quotes may have text after the quote that closes it, and a carriage return is
--- a byte.
+-- Records of CSV in the words of RFC 4180, 2: fields with a delimiter between them. More is allowed here than there: a
+-- plain field may have quotes after its first byte, a field in quotes may have text after the quote that closes it, and
+-- a carriage return is a byte like any other.
 use Rattle.std.specs.Prelude.{◌≡◌, ◌≢◌, ◌⊎◌, ℕ, false, List, [], ◌∷◌, ◌++◌}
 use Rattle.std.specs.List.{AllByRecursion}
 use Rattle.lt_rows.specs.Quotes.{IsFreeOutside, is_quoted, place_at}

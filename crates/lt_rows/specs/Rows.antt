@@ -17,7 +17,7 @@ abbrev pub IsRowField : Separator → List ℕ → Type 0
 IsRowField separators.Tab text = All (λ byte. byte ≢ 9) text
 IsRowField (separators.Delimiter delimiter) text = IsFreeOutside delimiter delimiter places.Fresh text
 
--- a separator after this field would end it; in CSV that needs that the field doesn't end within quotes
+-- a separator after this field would end it: always so in TSV, and in CSV if the field doesn't end within quotes
 abbrev pub IsClosed : Separator → List ℕ → Type 0
 IsClosed separators.Tab text = Unit {0}
 IsClosed (separators.Delimiter delimiter) text = is_quoted (place_at delimiter places.Fresh text) ≡ false
@@ -54,7 +54,7 @@ pub record HasField (S : Separator) (count : ℕ) (row front field after : List 
   pub ends : IsAfterField S field after
   pub row_is : row ≡ front ++ field ++ after
 
--- a row has no field with `count` fields before it
+-- a row has no field with `count` fields before it: its fields are those in `before`, fewer than `count`, and `last`
 pub record HasFewer (S : Separator) (count : ℕ) (row : List ℕ) : Type 0 where
   pub before : List (List ℕ)
   pub last : List ℕ

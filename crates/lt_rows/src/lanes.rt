@@ -1,4 +1,4 @@
-//! Bytes of which 64 are looked at together.
+//! Finding and counting a byte in a text of which 64 bytes are looked at together.
 ghost use Rattle.std.specs.Prelude.{◌≡◌, ◌<◌, ◌≤◌, ◌+◌, ◌==◌, ◌↔◌, ℕ, List, IfSome, MatchOption, count_by, length, slice_index, take};
 ghost use Rattle.std.specs.Int.{bit_at};
 ghost use Rattle.lt_rows.specs.Lanes.{AreBitsFrom};
@@ -7,7 +7,7 @@ ghost use Rattle.lt_rows.specs.Splitting.{IsFreeOf};
 
 use std::simd::prelude::*;
 
-/// How many bytes are looked at together: a vector of 512 bits, for each byte of which a `u64` has a bit.
+/// How many bytes are looked at together: a vector of 512 bits. A `u64` has one bit for each of these bytes.
 pub(crate) const LANES: usize = 64;
 
 /// Where a byte is among the first 64 of a text, which must have so many: bit k is set where it is at place k.
@@ -53,9 +53,10 @@ pub(crate) fn bits_in(byte: u8, text: &[u8], count: usize) -> u64
     bits_below(bits_of(byte, text), count)
 }
 
-/// Clears the lowest bit that is set and gives its place: the next place of a byte in a row. None if no bit is set. The
-/// bits don't tell of which byte and row they are, so the clauses are on each that they may be of, from `start` on. The
-/// answer is the next place, it is inside of the row, and the bits left are those behind it.
+/// Clears the lowest bit that is set and gives its place, for example 3 of the bits 3 and 7. None if no bit is set. The
+/// bits don't tell of which byte and row they are, so the clauses hold for every byte and row whose places from `start`
+/// on they may be: the answer is the next place of the byte (`next`), it is inside of the row (`inside`), and the bits
+/// that are left are the places behind it (`rest`).
 #[inline(always)]
 pub(crate) fn take_lowest(bits: &mut u64) -> Option<usize>
     ensures next { (byte start : ℕ) (row : List ℕ) → AreBitsFrom byte start row bits.old → IsNextPlace byte start row result }
@@ -71,8 +72,8 @@ pub(crate) fn take_lowest(bits: &mut u64) -> Option<usize>
     Some(lowest)
 }
 
-/// How many bytes at the front of a text are found to be neither of two bytes. They are looked at in blocks of 64, up
-/// to the first that has one of the two; a last block of fewer is not looked at.
+/// A number of bytes at the front of a text of which none is `one` or `other`. The text is looked at in blocks of 64,
+/// up to the first block that has one of the two; a last block of fewer than 64 is not looked at.
 pub(crate) fn free_front(one: u8, other: u8, text: &[u8]) -> usize
     ensures inside { result ≤ length text.now }
     ensures free { IsFreeOf one (take result text.now) × IsFreeOf other (take result text.now) }

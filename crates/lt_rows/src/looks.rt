@@ -22,32 +22,32 @@ pub struct TextAt {
     pub end: usize,
 }
 
-/// What a row is answered by.
+/// What a row is answered by. The first of these that is true of the row is found.
 #[derive(Clone, Copy, Debug, PartialEq, Eq)]
 pub enum Found {
-    /// A carriage return is in it, outside of quotes.
+    /// The row is of CSV, and a carriage return is in it, outside of quotes.
     Return,
-    /// It has no such field.
+    /// The row has too few fields to have the one that is looked for.
     Fewer,
-    /// The text of the field.
+    /// Where the text of the field is.
     Text(TextAt),
 }
 
 /// A row that was looked at for one of its fields.
 #[derive(Clone, Copy, Debug, PartialEq, Eq)]
 pub struct Look {
-    /// Whether it ends within quotes, where delimiters part fields.
+    /// Whether the row ends within quotes. A row of TSV never does.
     pub is_open: bool,
     /// What it is answered by.
     pub found: Found,
 }
 
-/// Which bytes are in no row of a text, as far as that is known.
+/// Which bytes are in no row of a text, as far as that is known. A `false` says nothing.
 #[derive(Clone, Copy, Debug, PartialEq, Eq)]
 pub struct Lacks {
-    /// Carriage returns are in none.
+    /// Whether it is known that no row has a carriage return.
     pub returns: bool,
-    /// Quotes are in none.
+    /// Whether it is known that no row has a quote.
     pub quotes: bool,
 }
 
@@ -70,7 +70,8 @@ fn is_free_from(byte: u8, text: &[u8], front: usize) -> bool
     is_free_of(byte, &text[front..])
 }
 
-/// Whether a text lacks carriage returns, and whether it lacks quotes. A front without both is passed once for the two.
+/// Whether a text lacks carriage returns, and whether it lacks quotes. A front of it that has neither is looked at only
+/// once.
 pub fn lacks_of(text: &[u8]) -> Lacks
     ensures { AreLackedIn text.now result }
 {
@@ -97,8 +98,8 @@ fn is_plain_line(separator: Separator, lacks: Lacks, text: &[u8], count: usize) 
 }
 
 /// Whether each separator in a row parts fields, as far as that is known. Each tab does. Each delimiter does if the row
-/// has no line feeds (10) by `is_line` and no quotes by `lacks`. The clause is on each row that these may be said of,
-/// since the function sees none.
+/// has no line feeds (10) by `is_line` and no quotes by `lacks`. The function sees no row, so the clause holds for
+/// every row of which `is_line` and `lacks` are true.
 fn is_plain(separator: Separator, is_line: bool, lacks: Lacks) -> bool
     ensures { (row : List ℕ) → LacksIn row lacks → (IsTrue is_line → IsFreeOf 10 row) → IsTrue result → IsPlain separator row }
 {
@@ -122,9 +123,9 @@ fn is_open_from(delimiter: u8, text: &[u8], count: usize, start: usize) -> bool
     }
 }
 
-/// Whether a row ends within quotes. The row is the first `count` bytes of `text`, and one of its fields begins at
-/// `start`, which must be at most `count`: the clause holds if so, after whatever number of fields (`before`). What
-/// `lacks` says must be true of the row.
+/// Whether a row ends within quotes. The row is the first `count` bytes of `text`, which must have so many. `start`
+/// must be at most `count`. The clause holds if one of the row's fields begins there, after any number of fields
+/// (`before`), so that the fields before `start` need no look. What `lacks` says must be true of the row.
 #[tactic(auto, using(crate::proofs::LookLemmas::closed_row))]
 #[inline(always)]
 fn is_open(separator: Separator, lacks: Lacks, text: &[u8], count: usize, start: usize) -> bool
@@ -149,7 +150,7 @@ fn is_open(separator: Separator, lacks: Lacks, text: &[u8], count: usize, start:
 }
 
 /// Where the text of a field is: between its quotes, if it has them. The field goes from `start` to `end` of a row,
-/// which must be places in it, in this order. The clause holds whichever field of the row that is (`before`).
+/// which must be places in it, in this order. The clause holds for the field after any number of others (`before`).
 #[inline(always)]
 fn text_at(separator: Separator, row: &[u8], start: usize, end: usize) -> TextAt
     requires { (start ≤ end) × (end ≤ length row.now) }
@@ -163,9 +164,10 @@ fn text_at(separator: Separator, row: &[u8], start: usize, end: usize) -> TextAt
     }
 }
 
-/// Looks in a row for the field that comes after `before` others, and whether the row ends within quotes. The row is
-/// the first `count` bytes of a text, which must have so many. What `lacks` says must be true of it. If it says that
-/// the row lacks carriage returns, the row must have no line feeds either.
+/// Looks in a row for the field that comes after `before` others, and whether the row ends within quotes. It finds
+/// `Return` if a carriage return is outside of quotes, else `Fewer` if the row has no such field, else the `Text` of
+/// the field. The row is the first `count` bytes of a text, which must have so many. What `lacks` says must be true of
+/// the row. If `lacks` says that the row lacks carriage returns, the row must have no line feeds either.
 #[inline(always)]
 pub fn look_at(separator: Separator, lacks: Lacks, text: &[u8], count: usize, before: usize) -> Look
     requires count { count ≤ length text.now }

@@ -21,9 +21,10 @@ fn with_more(text: &[u8], count: usize) -> &[u8]
     &text[..text.len().min(count.saturating_add(TOGETHER))]
 }
 
-/// The next of the places of a byte. None if it is not below `count`, or no place is left. `places` don't tell what
-/// they are of, so `next` and `rest` are on each byte and each text `near` whose places from `start` on they may be.
-/// The answer is the next among the first `count` bytes, and the places left are those behind it.
+/// The next of the places of a byte. None if no place is left, or the next one is not below `count`. `places` doesn't
+/// tell of which byte and text it has the places, so `next` and `rest` hold for every byte and every text `near` whose
+/// places from `start` on they may be: the answer is the next place among the first `count` bytes (`next`), and the
+/// places that are left are those behind it (`rest`).
 #[inline(always)]
 fn next_within(places: &mut Memchr<'_>, count: usize) -> Option<usize>
     ensures within { IfSome result (λ end. end < count) }

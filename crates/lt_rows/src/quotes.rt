@@ -36,8 +36,8 @@ impl Place {
         }
     }
 
-    /// The place after `front`, a text that begins at this place. `delimiter` is what parts fields. Of a text with
-    /// quotes (34) the clause says nothing.
+    /// The place after `front`, a text without quotes (34) that begins at this place. `delimiter` is what parts fields.
+    /// Of a text with quotes the clause says nothing.
     #[tactic(auto, using(crate::proofs::RowLemmas::place_of_free, crate::proofs::RowLemmas::quoted_of_free))]
     fn after_front(self, delimiter: u8, front: &[u8]) -> Place
         ensures { IsFreeOf 34 front.now → result ≡ place_at delimiter self front.now }

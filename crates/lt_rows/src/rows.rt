@@ -30,7 +30,7 @@ impl Separator {
     }
 
     /// Where the first field of the rest of a row ends, or None if no separator ends it. The rest is the first `count`
-    /// bytes of `text`, and `is_line` may be true only if it has no line feeds (10).
+    /// bytes of `text`, which must have so many. `is_line` may be true only if the rest has no line feeds (10).
     #[inline(always)]
     fn field_end(self, is_line: bool, text: &[u8], count: usize) -> Option<usize>
         requires count { count ≤ length text.now }
@@ -95,8 +95,9 @@ fn quoted_end(delimiter: u8, text: &[u8], count: usize) -> Option<usize>
     end_outside(delimiter, &text[..count])
 }
 
-/// Where the rest of a row begins after `before` fields, or None if it has no more than these. The row is the first
-/// `count` bytes of `text`, and `is_line` may be true only if it has no line feeds (10).
+/// Where the rest of a row begins after `before` fields, or None if the row has no field after them. The row is the
+/// first `count` bytes of `text`, which must have so many. `is_line` may be true only if the row has no line feeds
+/// (10).
 #[inline(always)]
 fn skip_fields(
     separator: Separator,
@@ -119,9 +120,9 @@ fn skip_fields(
     Some(at)
 }
 
-/// Where the field of a row that comes after `before` others begins and ends, or None if there are fewer. The row is
-/// the first `count` bytes of `text`. `is_line` may be true only of a row without line feeds (10), and `is_plain` only
-/// of one in which each separator parts fields.
+/// Where the field of a row that comes after `before` others begins and ends, or None if the row has no such field. The
+/// row is the first `count` bytes of `text`, which must have so many. `is_line` may be true only of a row without line
+/// feeds (10), and `is_plain` only of a row in which each separator parts fields.
 #[inline(always)]
 pub(crate) fn field_at(
     separator: Separator,
@@ -155,8 +156,8 @@ pub fn find_field(separator: Separator, row: &[u8], count: usize) -> Option<(&[u
     Some((&row[..start], &row[start..end], &row[end..]))
 }
 
-/// Whether a carriage return is in a row of CSV, outside of quotes. One that ends the row's line is no part of the row.
-/// False of rows of tabs.
+/// Whether a carriage return is in a row of CSV, outside of quotes. False of a row of TSV. The row must be given
+/// without the carriage return that may end its line.
 #[tactic(auto, using(crate::proofs::RowLemmas::free_of_none, crate::proofs::RowLemmas::not_free))]
 pub fn has_return(separator: Separator, row: &[u8]) -> bool
     ensures { IsTrue result ↔ HasReturn separator row.now }

@@ -1,4 +1,4 @@
--- Lemmas on devices that are read and written.
+-- Lemmas on runs over readers: devices, pieces, lines, texts with a byte order mark, and tallies.
 pub mod DeviceLemmas
 pub mod ReadLemmas
 pub mod PartLemmas

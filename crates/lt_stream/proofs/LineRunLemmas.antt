@@ -1,4 +1,6 @@
--- What the turns over a piece of lines keep, and how a run over lines ends.
+-- Lemmas for `Lined::take_piece` and `run_lines`. What is true at each turn of the loop over the lines of a piece
+-- (`PieceTurn`) stays true in the next one, and makes the piece taken at the end. A run over pieces of lines, however
+-- it ends, is a run over the lines (`runs_over`).
 use Rattle.std.proofs.Common.{◌≡◌, ◌<◌, ◌+◌, ◌^◌, ◌⊎◌, ◌++◌, ◌∷◌, ◌∙◌, inl, inr, ℕ, List, [], Option, Result, Ok, Err}
 use Rattle.std.proofs.Common.{length, sym, ap, refl, arith, append_assoc, append-nil, length-append}
 use Rattle.std.specs.Io.KnownBytes.{Appends}
@@ -14,7 +16,8 @@ use Rattle.lt_stream.specs.declared.faults.ToolFault.TheVariants as faults
 use Rattle.lt_stream.specs.declared.lines.Lined.{Lined}
 use Rattle.lt_stream.proofs.LinedLemmas.{during_fails, during_feed, during_lacks, during_part, during_written, few_lines}
 
--- a run may answer one line more: the lines that it answered are no more than the bytes that were read
+-- if the bytes that a run has read, and one more, are fewer than 2 to the 64, it may answer one line more, since it has
+-- answered no more lines than it has read bytes
 pub has_line : {A W : Type 0} (Q : A → Answered A) (first : A) (longest : ℕ) (contents : W
     → Option (List ℕ)) (start now : Device W) (bytes : List ℕ) (state : Lined A)
     → IsDuring (Q first) longest contents start now bytes state
@@ -38,7 +41,7 @@ pub record PieceTurn {A W : Type 0} (Q : A → Answered A) (longest : ℕ) (cont
       → IsTaken (Q first.answers) longest contents start before bytes old
       → IsDuring (Q first.answers) longest contents start now (bytes ++ front) state
 
--- at first the whole piece is left
+-- before the first turn the whole piece is left
 pub first_turn : {A W : Type 0} (Q : A → Answered A) (longest : ℕ) (contents : W
     → Option (List ℕ)) (piece : List ℕ) (before : Device W) (old : Lined A)
     → PieceTurn Q longest contents piece piece before before old old
@@ -49,7 +52,7 @@ first_turn Q longest contents piece before old = record {
       rw (append-nil bytes) t.during;
 }
 
--- one turn of the loop over a piece
+-- one turn of the loop over a piece, at whose beginning `rest` is left
 module _ {A W : Type 0} (Q : A → Answered A) (longest : ℕ) (contents : W → Option (List ℕ)) (piece rest : List ℕ)
     (before now : Device W) (old state : Lined A)
     (t : PieceTurn Q longest contents piece rest before now old state) where
@@ -62,7 +65,7 @@ module _ {A W : Type 0} (Q : A → Answered A) (longest : ℕ) (contents : W →
       (t.takes r.first r.start r.read r.taken)
       (omega (arith, r.few, length-append r.read t.front, ap length t.split, length-append t.front rest)))
 
-  -- one line more: its last part is kept, in `mid`, and it is answered, in `new`; `after` is left
+  -- if the next line ends, its last part is kept, in `mid`, and it is answered, in `new`, then `after` is left
   pub turn_line : (line after : List ℕ) (mid new : Lined A) → IsOneLine line × (rest ≡ line ++ 10 ∷ after)
       → KeepsMore longest line state mid → EndsLine Q longest mid new
       → PieceTurn Q longest contents piece after before now old new
@@ -76,7 +79,7 @@ module _ {A W : Type 0} (Q : A → Answered A) (longest : ℕ) (contents : W →
         (t.takes first start bytes taken)));
   }
 
-  -- some of the answers that wait are written
+  -- if some of the answers that wait are written, the same rest is left
   pub turn_written : (after : Device W) (new : Lined A) → WritesOwed contents state new now after (Ok tt)
       → PieceTurn Q longest contents piece rest before after old new
   turn_written after new w = record {
@@ -87,7 +90,7 @@ module _ {A W : Type 0} (Q : A → Answered A) (longest : ℕ) (contents : W →
         (t.takes first start bytes taken);
   }
 
-  -- memory runs out: what was written is a front of the answers
+  -- if memory runs out, what was written is a front of the answers
   pub turn_lacks : (first : Lined A) (start : Device W) (bytes : List ℕ)
       → IsTaken (Q first.answers) longest contents start before bytes old
       → IsCutOff (Q first.answers) contents start now (bytes ++ piece) faults.OutOfMemory
@@ -95,7 +98,7 @@ module _ {A W : Type 0} (Q : A → Answered A) (longest : ℕ) (contents : W →
       (during_lacks Q first.answers longest contents start now (bytes ++ t.front) rest state
       (t.takes first start bytes taken))
 
-  -- a write fails: what was written is a front of the answers
+  -- if a write fails, what was written is a front of the answers
   pub turn_fails : (last : Device W) (new : Lined A) (f : ToolFault) → WritesOwed contents state new now last (Err f)
       → (first : Lined A) (start : Device W) (bytes : List ℕ)
       → IsTaken (Q first.answers) longest contents start before bytes old
@@ -104,7 +107,7 @@ module _ {A W : Type 0} (Q : A → Answered A) (longest : ℕ) (contents : W →
       rw (t.split, ← append_assoc bytes t.front rest) (during_fails Q first.answers longest contents start now last
       (bytes ++ t.front) rest state new f (t.takes first start bytes taken) w)
 
-  -- what is left has no line feed, and is kept as the front of a line
+  -- if the rest has no line feed, and is kept as the front of a line, nothing is left
   pub turn_kept : (mid : Lined A) → IsOneLine rest → KeepsMore longest rest state mid
       → PieceTurn Q longest contents piece [] before now old mid
   turn_kept mid one keeps = record {
@@ -115,7 +118,7 @@ module _ {A W : Type 0} (Q : A → Answered A) (longest : ℕ) (contents : W →
         (t.takes first start bytes taken));
   }
 
--- nothing of the piece is left, and no answer waits: the piece is taken
+-- if nothing of the piece is left, and no answer waits, the piece is taken
 pub turn_done : {A W : Type 0} (Q : A → Answered A) (longest : ℕ) (contents : W → Option (List ℕ)) (piece : List ℕ)
     (before now : Device W) (old state : Lined A)
     → PieceTurn Q longest contents piece [] before now old state → state.owed.items ≡ []
@@ -127,7 +130,8 @@ turn_done Q longest contents piece before now old state t none first start bytes
 
 -- ---- how a run ends
 
--- a run stands between two pieces: what it has written answers the lines of this text up to its last line feed
+-- a run stands between two pieces: no write failed, and what it has written answers the lines of this text up to its
+-- last line feed
 pub record IsBetween {A W : Type 0} (Q : Answered A) (contents : W → Option (List ℕ)) (start now : Device W)
     (text : List ℕ) (answers : A) : Type 0 where
   pub written : List ℕ
@@ -160,7 +164,8 @@ between Q longest contents start now text state t =
       owed = record { lines = d.lines; last = d.last; cut = d.cut; each_one = d.each_one; last_one = d.last_one; answered = answered };
     }
 
--- How a run ends. It read these bytes, of which `text` are the lines. Names with ' are of the devices after it.
+-- How a run ends. It read the bytes `read`, and `text` are the bytes of these that are cut into lines. Names with ' are
+-- of the devices after it.
 module _ {A I W : Type 0} (Q : Answered A) (remaining : I → Option (List ℕ)) (contents : W → Option (List ℕ))
     (input input' : Device I) (output output' : Device W) (state : Lined A) (reads : ℕ) (read text : List ℕ) where
   -- the ways in which a run ends
@@ -172,7 +177,8 @@ module _ {A I W : Type 0} (Q : Answered A) (remaining : I → Option (List ℕ))
       ⊎ (IsStoppedByTurns (λ _. IsBetween Q contents output output' text state.answers) input input' reads read r
       ⊎ IsWithoutMemory (λ _. IsBetween Q contents output output' text state.answers) input input' read r)))
 
-  -- what is said of what a run wrote
+  -- What is said of a run with the result `r`: it wrote a front of the answers, it ended in a way that the contract
+  -- allows, and its result says which device failed, if one did.
   pub record Ended (r : Result (Unit {0}) ToolFault) : Type 0 where
     pub written : List ℕ
     pub appends : Appends (contents (inner_of output)) (contents (inner_of output')) written
@@ -182,7 +188,7 @@ module _ {A I W : Type 0} (Q : Answered A) (remaining : I → Option (List ℕ))
     pub write_rises : failures_of output < failures_of output' → r ≡ Err faults.Write
 
   module _ (r : Result (Unit {0}) ToolFault) where
-    -- a write failed, or memory ran out as a line was answered
+    -- this is true of a run that ended since a write failed, or memory ran out when a line was answered
     ended_cut : (f : ToolFault) → r ≡ Err f → failures_of input' ≡ failures_of input → IsCutOff Q contents output output' text f → Ended r
     ended_cut f is same c = elim c.stop [
       | inl wrote ↦
@@ -207,7 +213,7 @@ module _ {A I W : Type 0} (Q : Answered A) (remaining : I → Option (List ℕ))
           }
     ]
 
-    -- it ends between two pieces, with all answers written
+    -- it is true of a run that ended between two pieces, with all answers written
     ended_between : (b : IsBetween Q contents output output' text state.answers)
         → EndsAs Q remaining input input' output output' reads read text b.written state.answers r
         → (failures_of input < failures_of input' → r ≡ Err faults.Read) → Ended r
@@ -220,11 +226,11 @@ module _ {A I W : Type 0} (Q : Answered A) (remaining : I → Option (List ℕ))
       write_rises = λ lt. absurd (omega (arith, lt, b.same));
     }
 
-    -- a read failed
+    -- it is true of a run that a failed read ended
     ended_read : IsStoppedByRead (λ _. IsBetween Q contents output output' text state.answers) input input' read r → Ended r
     ended_read s = ended_between s.taken (rw s.fault (record { failed = s.failed; owed = s.taken.owed })) (λ _. s.fault)
 
-    -- all reads were made, and the last gave bytes
+    -- it is true of a run that made all reads that it may make, the last of which gave bytes
     ended_turns : IsStoppedByTurns (λ _. IsBetween Q contents output output' text state.answers) input input' reads read r → Ended r
     ended_turns s =
         ended_between s.taken
@@ -232,11 +238,11 @@ module _ {A I W : Type 0} (Q : Answered A) (remaining : I → Option (List ℕ))
         (record { all_made = s.all_made; gave_bytes = s.gave_bytes; last_gave = s.last_gave; owed = s.taken.owed }))
         (λ lt. absurd (omega (arith, lt, s.same)))
 
-    -- there was no memory for a piece
+    -- it is true of a run that had no memory for a piece
     ended_memory : IsWithoutMemory (λ _. IsBetween Q contents output output' text state.answers) input input' read r → Ended r
     ended_memory s = ended_between s.taken (rw s.fault tt) (λ lt. absurd (omega (arith, lt, s.same)))
 
-  -- in whichever way a run ends, this is true of what it wrote
+  -- in whichever way a run ends, what `Ended` says is true of it
   pub ended : (r : Result (Unit {0}) ToolFault) → Ways r → Ended r
   ended (Ok u) (inl f) =
       let a = f.finished in

@@ -1,4 +1,6 @@
--- What is taken of lines that come in pieces, and what answers them.
+-- Lemmas for the steps of a run over lines that come in pieces, as `Lined` makes them. If the state was right for the
+-- bytes that were read so far (`IsDuring`), it is right after each step: a part is kept, a line is answered, answers
+-- are written, or the bytes end. If memory runs out or a write fails, what was written is a front of the answers.
 use Rattle.std.proofs.Common.{◌≡◌, ◌≢◌, ◌≤◌, ◌<◌, ◌-◌, ◌++◌, ◌∷◌, ◌∙◌, inl, inr, ℕ, List, [], Option, Ok, Err, length}
 use Rattle.std.proofs.Common.{take, sym, ap, refl, subst, arith, append_assoc, append-nil, length-append}
 use Rattle.std.proofs.KnownBytes.{Appends-nil, Appends-trans}
@@ -21,18 +23,19 @@ use Rattle.lt_stream.proofs.PartLemmas.{kept_front, nothing_kept, take_none}
 abbrev IsNoFeed : ℕ → Type 0
 IsNoFeed byte = byte ≢ 10
 
--- the text of lines and one more: that of the others, and this one with its line feed (10)
+-- the text of lines and one more is that of the others, and then this line and its line feed (10)
 whole_last : (lines : List (List ℕ)) (line : List ℕ) → whole_lines (lines ++ line ∷ []) ≡ whole_lines lines ++ (line ++ 10 ∷ [])
 whole_last lines line = whole-append lines (line ∷ []) ∙ ap (λ (l : List ℕ). whole_lines lines ++ l) (append-nil (line ++ 10 ∷ []))
 
--- whole lines are no more than their bytes
+-- there are no more whole lines than bytes of them and of their line feeds
 pub few_lines : (lines : List (List ℕ)) → length lines ≤ length (whole_lines lines)
 few_lines [] = omega arith
 few_lines (line ∷ lines) = omega (arith, few_lines lines, length-append (line ++ 10 ∷ []) (whole_lines lines), length-append line (10 ∷ []))
 
--- one run, from the output `start`, whose lines are answered by what was `first` at its beginning
+-- One run, from the output `start`, whose lines are answered by what was `first` at its beginning. A state is right for
+-- the bytes that were read if `IsDuring` is true of them.
 module _ {A W : Type 0} (Q : A → Answered A) (first : A) (longest : ℕ) (contents : W → Option (List ℕ)) (start : Device W) where
-  -- at first nothing is read, kept or answered
+  -- a state in which nothing is kept, owed or answered is right at the beginning, where no byte is read
   pub taken_none : (state : Lined A) → 0 < longest → state.kept.items ≡ [] → state.owed.items ≡ []
       → Q first state.answers [] [] → IsTaken (Q first) longest contents start start [] state
   taken_none state some kept owed answered = record {
@@ -52,7 +55,7 @@ module _ {A W : Type 0} (Q : A → Answered A) (first : A) (longest : ℕ) (cont
     emptied = owed;
   }
 
-  -- a further part of a line is read and kept
+  -- if a further part of a line is read and kept, the state is right with that part
   pub during_part : (now : Device W) (bytes part : List ℕ) (old new : Lined A) → IsOneLine part
       → KeepsMore longest part old new → IsDuring (Q first) longest contents start now bytes old
       → IsDuring (Q first) longest contents start now (bytes ++ part) new
@@ -71,7 +74,7 @@ module _ {A W : Type 0} (Q : A → Answered A) (first : A) (longest : ℕ) (cont
     answered = rw (k.same, k.owed) t.answered;
   }
 
-  -- a line feed (10) is read, and the line that it ends is answered
+  -- if a line feed (10) is read, and the line that it ends is answered, the state is right with the line feed
   pub during_feed : (now : Device W) (bytes : List ℕ) (old new : Lined A) → EndsLine Q longest old new
       → IsDuring (Q first) longest contents start now bytes old
       → IsDuring (Q first) longest contents start now (bytes ++ 10 ∷ []) new
@@ -91,7 +94,7 @@ module _ {A W : Type 0} (Q : A → Answered A) (first : A) (longest : ℕ) (cont
         (e.takes.taken t.last t.last_one t.kept first t.lines (t.written ++ old.owed.items) t.answered);
   }
 
-  -- some of the answers that wait are written
+  -- if some of the answers that wait are written, the state is right for the same bytes
   pub during_written : (now after : Device W) (bytes : List ℕ) (old new : Lined A)
       → WritesOwed contents old new now after (Ok tt) → IsDuring (Q first) longest contents start now bytes old
       → IsDuring (Q first) longest contents start after bytes new
@@ -124,7 +127,7 @@ module _ {A W : Type 0} (Q : A → Answered A) (first : A) (longest : ℕ) (cont
     front = ap (λ (l : List ℕ). t.written ++ l) front.1 ∙ sym (append_assoc t.written part front.0);
   }
 
-  -- memory runs out: what was written is a front of the answers, whatever bytes follow
+  -- if memory runs out, what was written is a front of the answers, whatever bytes follow
   pub during_lacks : (now : Device W) (bytes more : List ℕ) (state : Lined A)
       → IsDuring (Q first) longest contents start now bytes state
       → IsCutOff (Q first) contents start now (bytes ++ more) faults.OutOfMemory
@@ -136,7 +139,7 @@ module _ {A W : Type 0} (Q : A → Answered A) (first : A) (longest : ℕ) (cont
     stop = inr (refl, t.same);
   }
 
-  -- a write fails: what was written is a front of the answers, whatever bytes follow
+  -- if a write fails, what was written is a front of the answers, whatever bytes follow
   pub during_fails : (now last : Device W) (bytes more : List ℕ) (state new : Lined A) (f : ToolFault)
       → IsDuring (Q first) longest contents start now bytes state → WritesOwed contents state new now last (Err f)
       → IsCutOff (Q first) contents start last (bytes ++ more) f
@@ -158,7 +161,8 @@ module _ {A W : Type 0} (Q : A → Answered A) (first : A) (longest : ℕ) (cont
     nothing_kept longest state.kept.items t.last t.some t.kept none,
   ) (append-nil t.lines)
 
-  -- where something is kept, the last line has no line feed, and one behind it would give the bytes no further line
+  -- where something is kept, the bytes have the same lines with a line feed (10) behind them, since their last line has
+  -- none
   last_ended : (now : Device W) (bytes : List ℕ) (state : Lined A)
       → IsDuring (Q first) longest contents start now bytes state → (state.kept.items ≡ [] → ⊥)
       → lines_of (bytes ++ 10 ∷ []) ≡ lines_of bytes
@@ -188,7 +192,7 @@ module _ {A W : Type 0} (Q : A → Answered A) (first : A) (longest : ℕ) (cont
     answered = rw (lines_during now bytes state t none) t.answered;
   }
 
-  -- once a line that is kept is answered as the last, all lines of the bytes are
+  -- once a line that is kept, if there is one, is answered as the last, all lines of the bytes are answered
   pub answered_last : (now : Device W) (bytes : List ℕ) (old new : Lined A) → EndsLast Q longest old new
       → IsDuring (Q first) longest contents start now bytes old → IsAnswered (Q first) contents start now bytes new
   answered_last now bytes old new (inl none) t = rw none.1 (answered_during now bytes old t none.0)
@@ -196,7 +200,7 @@ module _ {A W : Type 0} (Q : A → Answered A) (first : A) (longest : ℕ) (cont
       let a = answered_during now (bytes ++ 10 ∷ []) new (during_feed now bytes old new some.1 t) some.1.emptied in
       record { written = a.written; appends = a.appends; same = a.same; answered = rw (last_ended now bytes old t some.0) at a.answered }
 
-  -- the answers that wait are written: all lines are answered, and all answers written
+  -- if then the answers that wait are written, all lines are answered and all answers written
   pub answered_all : (now after : Device W) (bytes : List ℕ) (state new : Lined A)
       → IsAnswered (Q first) contents start now bytes state → WritesOwed contents state new now after (Ok tt)
       → new.owed.items ≡ []
@@ -208,7 +212,7 @@ module _ {A W : Type 0} (Q : A → Answered A) (first : A) (longest : ℕ) (cont
     answered = rw (w.same, sym (append-nil w.part) ∙ ap (λ (l : List ℕ). w.part ++ l) (sym none) ∙ sym w.done.0) a.answered;
   }
 
-  -- a write of the answers that wait fails at the end: what was written is a front of the answers
+  -- if a write of the answers that wait fails at the end, what was written is a front of the answers
   pub answered_fails : (now last : Device W) (bytes : List ℕ) (state new : Lined A) (f : ToolFault)
       → IsAnswered (Q first) contents start now bytes state → WritesOwed contents state new now last (Err f)
       → IsCutOff (Q first) contents start last bytes f

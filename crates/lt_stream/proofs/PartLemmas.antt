@@ -1,4 +1,4 @@
--- What is kept of a line that comes in pieces: its first bytes, at most `longest`.
+-- What is kept of a line that comes in pieces is its first bytes, at most `longest`, as `Lined::keep` keeps them.
 use Rattle.std.proofs.Common.{◌≡◌, ◌<◌, ◌+◌, ◌-◌, ◌==◌, ◌++◌, ◌∙◌, inl, inr, ℕ, List, [], true, false, length, take}
 use Rattle.std.proofs.Common.{sym, ap, arith, append-nil}
 use Rattle.std.proofs.lemmas.Bool.{eqb-true, eqb-false}
@@ -18,7 +18,8 @@ some_items items count is e none = eqb-false count 0 e (is ∙ ap length none)
 pub take_none : (longest : ℕ) (items : List ℕ) → items ≡ [] → take longest items ≡ []
 take_none longest items none = take_all longest items (omega (arith, ap length none)) ∙ none
 
--- the first `longest` bytes of a line: those of what came before, and of a further part as many as there is room for
+-- The first `longest` bytes of a line that goes on with `part` are `new`: what was kept of the line so far, `last`, and
+-- as many bytes of the part as there is room for.
 pub kept_front : (longest : ℕ) (kept last part new : List ℕ) → kept ≡ take longest last
     → new ≡ kept ++ take (longest - length kept) part → new ≡ take longest (last ++ part)
 kept_front longest kept last part new is e = elim (leb_tells (length last) longest) [
@@ -33,7 +34,7 @@ kept_front longest kept last part new is e = elim (leb_tells (length last) longe
       e ∙ ap (λ (n : ℕ). kept ++ take n part) none ∙ append-nil kept ∙ is ∙ sym (take-append-le longest last part (omega (arith, long.1)))
 ]
 
--- a line of which nothing is kept has no bytes, as at least one would be kept
+-- a line of which nothing is kept has no bytes, since at least one would be kept
 pub nothing_kept : (longest : ℕ) (kept last : List ℕ) → 0 < longest → kept ≡ take longest last → kept ≡ [] → last ≡ []
 nothing_kept longest kept last some is none = nil_from_length last
     (omega (arith, some, ap length (sym is ∙ none), length-take longest last))

@@ -1,4 +1,5 @@
--- What one read more did.
+-- What one further read of a device does, for the loops of runs: which bytes it gives, and how many reads the device
+-- counts then.
 use Rattle.std.proofs.Common.{◌≡◌, ◌+◌, ◌++◌, ◌∙◌, ℕ, List, Option, length, take, drop, sym, ap, add-one}
 use Rattle.std.specs.Io.KnownBytes.{Consumes}
 use Rattle.std.proofs.Math.Seq.{take-append_seam}

@@ -1,4 +1,5 @@
--- What the turns of a run over pieces keep, and how it ends.
+-- Lemmas for `run_pieces`. What is true at each turn of its loop, that is, after each read (`RunTurn`), stays true in
+-- the next one, and each of the five ways in which the loop ends is one that the contract allows.
 use Rattle.std.proofs.Common.{◌≡◌, ◌≤◌, ◌<◌, ◌+◌, ◌*◌, ◌++◌, ◌∙◌, inl, inr, ℕ, List, [], Option, None, Result, Ok, Err}
 use Rattle.std.proofs.Common.{length, refl, sym, subst, arith, append-nil, length-append}
 use Rattle.std.specs.Io.KnownBytes.{Consumes, IsAtEnd, Keeps}
@@ -13,8 +14,9 @@ use Rattle.lt_stream.specs.declared.faults.ToolFault.TheVariants as faults
 use Rattle.lt_stream.proofs.DeviceLemmas.{failed_from}
 use Rattle.lt_stream.proofs.ReadLemmas.{ReadsPiece, read_more}
 
--- So far `turn` reads gave these bytes, no read has failed, and T is true of what took the bytes. The run begins with
--- the output `start` and goes on with `now`.
+-- So far `turn` reads gave the bytes `read`, at least as many and at most 65,536 times as many, the last of them gave
+-- some, no read has failed, and T is true of what took the bytes. The output was `start` at the beginning of the run,
+-- and is `now` here.
 pub record RunTurn {I O P : Type 0} (T : RunFact O P) (remaining : I → Option (List ℕ)) (input input' : Device I)
     (start now : O) (state : P) (turn : ℕ) : Type 0 where
   pub read : List ℕ
@@ -26,7 +28,7 @@ pub record RunTurn {I O P : Type 0} (T : RunFact O P) (remaining : I → Option 
   pub most : length read ≤ 65536 * turn
   pub failures : failures_of input' ≡ failures_of input
 
--- at first no read is made
+-- before the first read this is true, if T is true of no bytes
 pub run_first : {I O P : Type 0} (T : RunFact O P) (remaining : I → Option (List ℕ)) (input : Device I) (start
     : O) (state : P) → T start start [] state
     → RunTurn T remaining input input start start state 0
@@ -41,7 +43,7 @@ run_first T remaining input start state first = record {
   failures = refl;
 }
 
--- there is no memory for a piece: the run ends before a read
+-- a run for which there is no memory for a piece ends before a read, by OutOfMemory
 pub run_lacks : {I O P A : Type 0} (T : RunFact O P) (S F : EndFact O P A) (remaining : I
     → Option (List ℕ)) (input : Device I) (start : O) (state : P) → T start start [] state
     → RunsPieces T S F remaining input input start start state (Err faults.OutOfMemory)
@@ -58,7 +60,7 @@ run_lacks T S F remaining input start state first = record {
 module _ {I O P A : Type 0} (T : P → RunFact O P) (S F : P → EndFact O P A) (remaining : I → Option (List ℕ))
     (input before : Device I) (first : P) (start now : O)
     (state : P) (turn : ℕ) (t : RunTurn (T first) remaining input before start now state turn) where
-  -- the bytes that were read, and those of one piece more, are few enough
+  -- the bytes that were read, and those of one piece more, are fewer than 2 to the 63
   pub run_room : (count : ℕ) → turn < most_reads → count ≤ 65536 → HasRoom T count now state
   run_room count few short = record {
     first = first;
@@ -68,7 +70,7 @@ module _ {I O P A : Type 0} (T : P → RunFact O P) (S F : P → EndFact O P A) 
     few = omega (arith, t.most, few, short);
   }
 
-  -- one piece more is read and taken
+  -- if one piece more is read and taken, the next turn comes
   pub run_next : (after : Device I) (last : O) (new : P) (piece : List ℕ) → ReadsPiece remaining before after piece
       → 0 < length piece → length piece ≤ 65536 → 0 < last_given_of after
       → TakesPiece T S piece now last state new (Ok None) → RunTurn (T first) remaining input after start last new (turn + 1)
@@ -85,7 +87,7 @@ module _ {I O P A : Type 0} (T : P → RunFact O P) (S F : P → EndFact O P A) 
         failures = r.failures ∙ t.failures;
       }
 
-  -- one piece more is read, and ends the run
+  -- if one piece more is read, and ends the run, the run did what the contract says
   pub run_stopped : (after : Device I) (last : O) (new : P) (piece : List ℕ) (r : Result A ToolFault)
       → turn < most_reads → ReadsPiece remaining before after piece
       → S first start last (t.read ++ piece) new r → RunsPieces (T first) (S first) (F first) remaining input after start last new r
@@ -98,7 +100,7 @@ module _ {I O P A : Type 0} (T : P → RunFact O P) (S F : P → EndFact O P A) 
     ends = inr (inl (record { same = reads.failures ∙ t.failures; stopped = stops }));
   }
 
-  -- the reader has no more bytes, and the run ends
+  -- so it did if the reader has no more bytes
   pub run_finished : (after : Device I) (last : O) (new : P) (r : Result A ToolFault) → turn < most_reads
       → ReadsPiece remaining before after [] → IsAtEnd (remaining (inner_of after))
       → FinishesPieces T F now last state new r → RunsPieces (T first) (S first) (F first) remaining input after start last new r
@@ -118,7 +120,7 @@ module _ {I O P A : Type 0} (T : P → RunFact O P) (S F : P → EndFact O P A) 
         });
   }
 
-  -- the read fails, and the run ends
+  -- so it did if the read fails
   pub run_failed : (after : Device I) → turn < most_reads
       → Keeps (remaining (inner_of before)) (remaining (inner_of after)) → reads_of after ≡ one_more (reads_of before)
       → HasFailed before after → RunsPieces (T first) (S first) (F first) remaining input after start now state (Err faults.Read)
@@ -131,7 +133,7 @@ module _ {I O P A : Type 0} (T : P → RunFact O P) (S F : P → EndFact O P A) 
     ends = inr (inr (inl (record { fault = refl; failed = failed_from input before after t.failures failed; taken = t.taken })));
   }
 
-  -- all reads are made, and the run ends
+  -- so it did if all reads that it may make are made
   pub run_turns : turn ≡ most_reads
       → RunsPieces (T first) (S first) (F first) remaining input before start now state (Err faults.TooManyTurns)
   run_turns all = record {

@@ -26,7 +26,7 @@ no_tallies = record { each = tt; once = tt; all = tt; order = refl }
 differs : (a b : List ℕ) → bytes_eq a b ≡ false → bytes_eq b a ≡ false
 differs a b other = nat_list_eq_equiv.symm b a ∙ other
 
--- how many of these lines and one line more a fault refused
+-- of these lines and one line more, a fault refused as many as of these lines, and one more if it refused that line
 count_more : (fault : List ℕ) (lines : List Refused) (line : Refused) → count_by (is_by fault) (lines ++ line ∷ [])
     ≡ count_by (is_by fault) lines + cond (is_by fault line) 1 0
 count_more fault lines line =
@@ -54,11 +54,11 @@ others_stay lines line [] other h = tt
 others_stay lines line (tally ∷ tallies) other h =
     (stays lines line tally (differs line.fault tally.fault.items other.0) h.0, others_stay lines line tallies other.1 h.1)
 
--- the tally, with this many lines instead
+-- the tally with this count of lines instead of its own
 abbrev pub with_count : Tally → ℕ → Tally
 with_count tally count = record { fault = tally.fault; lines = count; first = tally.first; text = tally.text }
 
--- the tally of the fault of one line more is right with one more counted
+-- the tally of the fault that refused one line more is right with that line if it counts one more
 grows : (lines : List Refused) (line : Refused) (tally : Tally) (count : ℕ) → bytes_eq line.fault tally.fault.items
     ≡ true → count ≡ tally.lines + 1
     → IsTally lines tally → IsTally (lines ++ line ∷ []) (with_count tally count)
@@ -131,13 +131,15 @@ fits lines tallies place d at t = by_each tallies place at t.each
     by_each (tally ∷ some) zero at h = omega (arith, h.0.count, count_by-le-length (is_by tally.fault.items) lines)
     by_each (tally ∷ some) (suc place) at h = by_each some place (omega (arith, at)) h.1
 
--- the names of the faults of these lines and of one more
+-- the names of the faults of these lines and one more are those of these lines, and the name of that line's fault if it
+-- is new
 names_more : (names : List (List ℕ)) (lines : List Refused) (line : Refused) → names_from names (lines ++ line ∷ [])
     ≡ with_name (names_from names lines) line.fault
 names_more names [] line = refl
 names_more names (l ∷ lines) line = names_more (with_name names l.fault) lines line
 
--- one line more, whose fault has a tally at this place: that one counts one more
+-- if one line more is refused by a fault that has a tally at this place, the tallies are right once that tally counts
+-- one more
 pub counted : (lines : List Refused) (line : Refused) (tallies : List Tally) (place count : ℕ) (tally : Tally)
     → position (λ (tally : Tally). bytes_eq line.fault tally.fault.items) tallies ≡ Some place → tally ≡ get_or tallies place tally
     → count ≡ min (tally.lines + 1) 18446744073709551615 → length lines + 1 < 18446744073709551616
@@ -202,7 +204,7 @@ no_line fault faults (line ∷ lines) none h =
     let later = no_line fault faults lines none h.1 in
     (rw other later.0, rw other later.1)
 
--- one line more, whose fault has no tally: a tally that begins with it is put last
+-- if one line more is refused by a fault that has no tally, the tallies are right with a tally of that line put last
 pub begun : (lines : List Refused) (line : Refused) (tallies : List Tally) (tally : Tally)
     → position (λ (other : Tally). bytes_eq line.fault other.fault.items) tallies ≡ None
     → tally.fault.items ≡ line.fault → tally.lines ≡ 1 → tally.first ≡ line.number → tally.text.items ≡ line.text

@@ -1,4 +1,6 @@
--- What a run takes of a text that may begin with a byte order mark.
+-- Lemmas for `Text::take_piece` and `Text::finish`, by whether the first bytes of the text wait, since they may be a
+-- part of a byte order mark, or the text is past its mark. What a piece, or the end, does to the lines after the mark
+-- is what it does to the text.
 use Rattle.std.proofs.Common.{◌≡◌, ◌≤◌, ◌<◌, ◌+◌, ◌^◌, ◌++◌, ◌∙◌, inl, inr, ℕ, List, [], true, false, Option, Some}
 use Rattle.std.proofs.Common.{None, Result, Ok, Err, length, sym, ap, refl, subst, arith, append_assoc, append-nil}
 use Rattle.std.proofs.Common.{length-append}
@@ -35,7 +37,7 @@ narrow_now bytes narrow = subst (λ (l : List ℕ). IsWide l → ⊥) (append-ni
 text_short : (bytes mark text : List ℕ) → SplitsMark bytes mark text → length text ≤ length bytes
 text_short bytes mark text s = omega (arith, ap length s.whole, length-append mark text)
 
--- where nothing is taken yet, no line is
+-- where no byte is taken yet, there is no whole line
 pub no_lines : (lines : List (List ℕ)) (last : List ℕ) → [] ≡ whole_lines lines ++ last → lines ≡ []
 no_lines lines last cut = nil_from_length lines (omega (arith, few_lines lines, ap length cut, length-append (whole_lines lines) last))
 
@@ -50,7 +52,7 @@ room_less T count less now state few r = record {
   few = omega (arith, r.few, few);
 }
 
--- lines that are answered by Q, of each of which `longest` bytes are kept
+-- lines that are answered as Q says, of each of which at most `longest` bytes are kept
 module _ {A W : Type 0} (Q : A → Answered A) (longest : ℕ) (contents : W → Option (List ℕ)) where
   -- a piece of a text was taken, by what is true of the text before and after
   abbrev pub TextTakes : List ℕ → (before after : Device W) → (old new : Text A) → Result (Option (Unit {0})) ToolFault → Type 0
@@ -71,17 +73,17 @@ module _ {A W : Type 0} (Q : A → Answered A) (longest : ℕ) (contents : W →
   abbrev pub LinesFinish : (before after : Device W) → (old new : Lined A) → Result (Unit {0}) ToolFault → Type 0
   LinesFinish = FinishesPieces (λ first. IsTaken (Q first.answers) longest contents) (λ first. Finishes (Q first.answers) contents)
 
-  -- a run over a text has this room
+  -- a run over a text has room for this many bytes more
   abbrev pub TextRoom : ℕ → Device W → Text A → Type 0
   TextRoom = HasRoom (λ first. IsTakenText (Q first.lined.answers) longest contents)
 
-  -- a run over its lines has this room
+  -- a run over its lines has room for this many bytes more
   abbrev pub LineRoom : ℕ → Device W → Lined A → Type 0
   LineRoom = HasRoom (λ first. IsTaken (Q first.answers) longest contents)
 
   -- ---- past the mark
 
-  -- past the mark the lines have the room of the text
+  -- past the mark a run over the lines has the room of the run over the text
   pub past_room : (count : ℕ) (now : Device W) (state : Text A) → state.is_begun ≡ true → TextRoom count now state
       → LineRoom count now state.lined
   past_room count now state begun r = elim r.taken [
@@ -95,7 +97,7 @@ module _ {A W : Type 0} (Q : A → Answered A) (longest : ℕ) (contents : W →
     | inr w ↦ absurd (not_both state begun w.begun)
   ]
 
-  -- past the mark a piece of the text is one of the lines
+  -- past the mark a piece that the lines take is taken by the text
   pub past_takes : (piece : List ℕ) (before after : Device W) (old new : Text A) (r : Result (Option (Unit {0}))
       ToolFault) → old.is_begun ≡ true → new.is_begun ≡ true → LinesTake piece before after old.lined new.lined r
       → TextTakes piece before after old new r
@@ -126,7 +128,7 @@ module _ {A W : Type 0} (Q : A → Answered A) (longest : ℕ) (contents : W →
     | inr w ↦ absurd (not_both old begun w.begun)
   ]
 
-  -- past the mark the end of the text is that of the lines
+  -- past the mark the end that the lines take is taken by the text
   pub past_finishes : (before after : Device W) (old new : Text A) (r : Result (Unit {0}) ToolFault)
       → old.is_begun ≡ true → LinesFinish before after old.lined new.lined r → TextFinishes before after old new r
   past_finishes before after old new (Ok u) begun h = λ first start read t. elim t [
@@ -152,7 +154,7 @@ module _ {A W : Type 0} (Q : A → Answered A) (longest : ℕ) (contents : W →
 
   -- ---- the first bytes wait
 
-  -- while the first bytes wait, nothing that is written is a front of the answers to any text
+  -- while the first bytes wait, no bytes, which is what was written, are a front of the answers to any text
   begun_none : (first : Text A) (start now : Device W) (state : Text A)
       → IsTaken (Q first.lined.answers) longest contents start now [] state.lined → (text : List ℕ)
       → IsBegun (Q first.lined.answers) text []
@@ -184,7 +186,7 @@ module _ {A W : Type 0} (Q : A → Answered A) (longest : ℕ) (contents : W →
     }
   ]
 
-  -- the first bytes with a piece may still be a part of a mark
+  -- if the first bytes with a piece may still be a part of a mark, and are kept, the piece is taken
   pub waiting_more : (piece : List ℕ) (now : Device W) (old new : Text A) → old.is_begun ≡ false → new.is_begun ≡ false
       → new.front.items ≡ old.front.items ++ piece → new.lined ≡ old.lined → MayBeMark (old.front.items ++ piece)
       → TextTakes piece now now old new (Ok None)
@@ -199,7 +201,7 @@ module _ {A W : Type 0} (Q : A → Answered A) (longest : ℕ) (contents : W →
     })
   ]
 
-  -- the first bytes with a piece are refused
+  -- if the first bytes with a piece are refused, the piece ends the run by this fault
   pub waiting_refused : (piece : List ℕ) (now : Device W) (old new : Text A) (f : ToolFault) → old.is_begun ≡ false
       → IsRefusedFront (old.front.items ++ piece) f → TextTakes piece now now old new (Err f)
   waiting_refused piece now old new f waits (inl wide) = λ first start read t. elim t [
@@ -226,8 +228,8 @@ module _ {A W : Type 0} (Q : A → Answered A) (longest : ℕ) (contents : W →
         })
   ]
 
-  -- The first bytes with a piece, `bytes`, can't become a mark any more, and what follows the mark, or all of them, is
-  -- taken as text. `mid` is the state in which they are kept.
+  -- If the first bytes with a piece can't be a part of a mark any more, and what follows the mark, or all of them, is
+  -- taken as lines, the piece is taken. `mid` is the state in which they are kept.
   pub waiting_begins : (piece : List ℕ) (before after : Device W) (old mid new : Text A) (r : Result (Option (Unit {0}))
       ToolFault) → old.is_begun ≡ false → mid.front.items ≡ old.front.items ++ piece → mid.lined ≡ old.lined
       → (MayBeMark (old.front.items ++ piece) → ⊥) → (IsWide (old.front.items ++ piece) → ⊥)
@@ -263,7 +265,7 @@ module _ {A W : Type 0} (Q : A → Answered A) (longest : ℕ) (contents : W →
 
   -- ---- the end while the first bytes wait
 
-  -- the lines have room for their end once the first bytes are taken
+  -- once the first bytes are taken at the end, the lines have room for their end
   pub ending_room : (before after : Device W) (old new : Text A) (o : Option (Unit {0})) → old.is_begun ≡ false
       → TextRoom 0 before old → Begins Q longest contents old new before after (Ok o) → LineRoom 0 after new.lined
   ending_room before after old new None waits r b = elim r.taken [
@@ -282,7 +284,7 @@ module _ {A W : Type 0} (Q : A → Answered A) (longest : ℕ) (contents : W →
     | inr w ↦ absurd (b.takes r.first.lined r.start [] w.taken)
   ]
 
-  -- the first bytes can't be taken at the end
+  -- if the first bytes can't be taken at the end, the text ends by this fault
   pub ending_fails : (before after : Device W) (old new last : Text A) (f : ToolFault) → old.is_begun ≡ false
       → Begins Q longest contents old new before after (Err f) → TextFinishes before after old last (Err f)
   ending_fails before after old new last f waits b = λ first start read t. elim t [
@@ -296,7 +298,7 @@ module _ {A W : Type 0} (Q : A → Answered A) (longest : ℕ) (contents : W →
     }
   ]
 
-  -- the first bytes are taken at the end, and then the end of the lines
+  -- if the first bytes are taken at the end, and then the end of the lines, the end of the text is taken
   pub ending_finishes : (before between after : Device W) (old new last : Text A) (o : Option (Unit {0})) (r : Result
       (Unit {0}) ToolFault) → old.is_begun ≡ false → Begins Q longest contents old new before between (Ok o)
       → LinesFinish between after new.lined last.lined r

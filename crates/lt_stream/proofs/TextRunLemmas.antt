@@ -1,4 +1,5 @@
--- How a run ends over a text that may begin with a byte order mark.
+-- Lemmas for `run_text`: a run over the pieces of a text that may begin with a byte order mark, however it ends, is a
+-- run over the lines of the text after the mark (`runs_text`).
 use Rattle.std.proofs.Common.{◌≡◌, ◌<◌, ◌⊎◌, ◌++◌, ◌∙◌, inl, inr, ℕ, List, [], Option, Result, Ok, Err, sym, ap, refl, arith, append-nil}
 use Rattle.std.proofs.KnownBytes.{Appends-nil}
 use Rattle.lt_jar.specs.Devices.{failures_of, inner_of}
@@ -78,7 +79,7 @@ module _ {A I W : Type 0} (Q : Answered A) (longest : ℕ) (remaining : I → Op
     between = waiting_between bytes w;
   }
 
-  -- a run over the lines of the text ends as one over the text
+  -- if a run over the lines of the text ended so, the run over the text ended so too
   ends_after : (reads : ℕ) (read text written : List ℕ) (answers : A) (r : Result (Unit {0}) ToolFault)
       → EndsAs Q remaining input input' output output' reads read text written answers r
       → EndsAfterMark Q remaining input input' output output' reads read text written answers r
@@ -91,11 +92,11 @@ module _ {A I W : Type 0} (Q : Answered A) (longest : ℕ) (remaining : I → Op
   ends_after reads read text written answers (Err (faults.BadTsv line)) e = e
   ends_after reads read text written answers (Err faults.Utf16) e = absurd e
 
-  -- a run over pieces that answered r
+  -- a run over pieces that gave the result `r` is a run over the text in each of these cases
   module _ (r : Result (Unit {0}) ToolFault)
       (p : RunsPieces (IsTakenText Q longest contents) (λ start now read _ end. StopsText Q contents start now read end)
       (FinishesText Q contents) remaining input input' output output' state r) where
-    -- it ends in a way in which a run over lines does
+    -- it ended in a way in which a run over lines does
     run_text : (mark text : List ℕ) → SplitsMark p.read mark text
         → (IsWide p.read → (r ≡ Err faults.Utf16) ⊎ (r ≡ Err faults.OutOfMemory))
         → Ways Q remaining contents input input' output output' state.lined p.reads p.read text r
@@ -120,7 +121,7 @@ module _ {A I W : Type 0} (Q : Answered A) (longest : ℕ) (remaining : I → Op
           write_rises = e.write_rises;
         }
 
-    -- it ends between two pieces
+    -- it ended between two pieces
     run_between : IsTakenText Q longest contents output output' p.read state
         → ((text : List ℕ) → IsBetween Q contents output output' text state.lined.answers
         → Ways Q remaining contents input input' output output' state.lined p.reads p.read text r)
@@ -128,7 +129,7 @@ module _ {A I W : Type 0} (Q : Answered A) (longest : ℕ) (remaining : I → Op
     run_between t way = let s = text_split p.read t in run_text s.mark s.text s.split (λ wide. absurd (s.narrow wide))
         (way s.text s.between)
 
-    -- the bytes begin with a mark of UTF-16
+    -- it ended since the bytes begin with a mark of UTF-16
     run_wide : (f : ToolFault) → r ≡ Err f → failures_of input' ≡ failures_of input
         → IsStoppedWide Q output output' p.read f
         → RunsOverText Q remaining contents input input' output output' state.lined.answers r
@@ -153,7 +154,7 @@ module _ {A I W : Type 0} (Q : Answered A) (longest : ℕ) (remaining : I → Op
           write_rises = λ lt. absurd (omega (arith, lt, ap failures_of w.untouched));
         }
 
-  -- a run over the pieces of a text is a run over the lines of the text
+  -- a run over the pieces of a text, however it ended, is a run over the lines of the text
   pub runs_text : (r : Result (Unit {0}) ToolFault)
       → RunsPieces (IsTakenText Q longest contents) (λ start now read _ end. StopsText Q contents start now read
       end) (FinishesText Q contents) remaining input input' output output' state r

@@ -1,4 +1,6 @@
--- The state of a run over a text that may begin with a byte order mark. No public contract cites this.
+-- The state of a run over a text that may begin with a byte order mark. No public contract cites this. As in Lined, Q
+-- tells what is answered, `longest` is how many bytes are kept of a line, `contents` tells what a writer has taken,
+-- `start` is the output at the beginning of the run, and `now` the output here.
 use Rattle.std.specs.Prelude.{◌≡◌, ◌⊎◌, ◌++◌, ℕ, List, [], true, false, Option, Result, Ok, Err}
 use Rattle.lt_jar.specs.declared.devices.Device.{Device}
 use Rattle.lt_rows.specs.Marks.{IsWide, MayBeMark, SplitsMark}
@@ -9,9 +11,8 @@ use Rattle.lt_stream.specs.declared.faults.ToolFault.{ToolFault}
 use Rattle.lt_stream.specs.declared.faults.ToolFault.TheVariants as faults
 use Rattle.lt_stream.specs.declared.texts.Text.{Text}
 
--- The mark of these bytes is passed over, if they have one, and the text after it is taken as lines. No byte that
--- follows changes that (`split`, `narrow`). `start` is the output at the beginning of the run, and `now` the output
--- here. Q tells what is answered.
+-- The mark of these bytes is passed over, if they have one, and the text after it is taken as lines. Whatever bytes
+-- follow, the mark is the same (`split`) and is none of UTF-16 (`narrow`).
 pub record IsPast {A W : Type 0} (Q : Answered A) (longest : ℕ) (contents : W → Option (List ℕ))
     (start now : Device W) (bytes : List ℕ) (state : Text A) : Type 0 where
   pub begun : state.is_begun ≡ true
@@ -21,7 +22,7 @@ pub record IsPast {A W : Type 0} (Q : Answered A) (longest : ℕ) (contents : W 
   pub narrow : (more : List ℕ) → IsWide (bytes ++ more) → ⊥
   pub taken : IsTaken Q longest contents start now text state.lined
 
--- these bytes may be a part of a mark, and wait, and nothing was written; `start`, `now` and Q as in IsPast
+-- these bytes may be a part of a mark, and wait, no line is taken, and nothing was written
 pub record IsWaiting {A W : Type 0} (Q : Answered A) (longest : ℕ) (contents : W → Option (List ℕ))
     (start now : Device W) (bytes : List ℕ) (state : Text A) : Type 0 where
   pub begun : state.is_begun ≡ false
@@ -30,14 +31,15 @@ pub record IsWaiting {A W : Type 0} (Q : Answered A) (longest : ℕ) (contents :
   pub untouched : now ≡ start
   pub taken : IsTaken Q longest contents start now [] state.lined
 
--- these bytes were read, and all answers to them are written; `start`, `now` and Q as in IsPast
+-- These bytes were read. They are past the mark, and the answers to their whole lines are written; or they wait, since
+-- they may be a part of a mark.
 abbrev pub IsTakenText : {A W : Type 0} → Answered A → ℕ → (W → Option (List ℕ)) → (start now : Device W) → List ℕ
     → Text A → Type 0
 IsTakenText Q longest contents start now bytes state =
     IsPast Q longest contents start now bytes state ⊎ IsWaiting Q longest contents start now bytes state
 
--- A write failed or memory ran out, and what was written is a front of the answers to the text after the mark. Of bytes
--- with a mark of UTF-16 nothing is written, so only memory can run out (`narrow`). `start`, `now` and Q as in IsPast.
+-- A write failed or memory ran out, and what was written is a front of the answers to the text after the mark. If the
+-- bytes begin with a mark of UTF-16, nothing is written, so only memory can run out (`narrow`).
 pub record IsCutAfter {A W : Type 0} (Q : Answered A) (contents : W → Option (List ℕ)) (start now : Device W)
     (bytes : List ℕ) (fault : ToolFault) : Type 0 where
   pub mark : List ℕ
@@ -46,8 +48,8 @@ pub record IsCutAfter {A W : Type 0} (Q : Answered A) (contents : W → Option (
   pub narrow : IsWide bytes → fault ≡ faults.OutOfMemory
   pub cut : IsCutOff Q contents start now text fault
 
--- The bytes begin with a byte order mark of UTF-16, and nothing was written, which is a front of the answers to any
--- text (`begun`). `start`, `now` and Q as in IsPast.
+-- The fault is Utf16: the bytes begin with a byte order mark of UTF-16, and nothing was written. So the empty list that
+-- was written is a front of the answers to any text (`begun`).
 pub record IsStoppedWide {A W : Type 0} (Q : Answered A) (start now : Device W) (bytes : List ℕ)
     (fault : ToolFault) : Type 0 where
   pub named : fault ≡ faults.Utf16
@@ -55,15 +57,14 @@ pub record IsStoppedWide {A W : Type 0} (Q : Answered A) (start now : Device W) 
   pub untouched : now ≡ start
   pub begun : (text : List ℕ) → IsBegun Q text []
 
--- A piece can end a run only by a fault: a failed write, lack of memory or a mark of UTF-16. `start`, `now` and Q as in
--- IsPast.
+-- a piece can end a run only by a fault: a failed write, lack of memory or a mark of UTF-16
 abbrev pub StopsText : {A W : Type 0} → Answered A → (W → Option (List ℕ)) → (start now : Device W) → List ℕ
     → Result (Unit {0}) ToolFault → Type 0
 StopsText Q contents start now bytes (Ok _) = ⊥
 StopsText Q contents start now bytes (Err fault) =
     IsCutAfter Q contents start now bytes fault ⊎ IsStoppedWide Q start now bytes fault
 
--- all lines of the text after the mark are answered, and all answers are written; `start`, `now` and Q as in IsPast
+-- all lines of the text after the mark, which is none of UTF-16, are answered, and all answers are written
 pub record IsAllAfter {A W : Type 0} (Q : Answered A) (contents : W → Option (List ℕ)) (start now : Device W)
     (bytes : List ℕ) (answers : A) : Type 0 where
   pub mark : List ℕ
@@ -72,14 +73,15 @@ pub record IsAllAfter {A W : Type 0} (Q : Answered A) (contents : W → Option (
   pub narrow : IsWide bytes → ⊥
   pub all : IsAll Q contents start now text answers
 
--- how a run ends after the reader's last byte, by its answer; `start`, `now` and Q as in IsPast
+-- How a run ends after the reader's last byte, by its result: all answers are written, or a write failed or memory ran
+-- out.
 abbrev pub FinishesText : {A W : Type 0} → Answered A → (W → Option (List ℕ)) → (start now : Device W) → List ℕ
     → Text A → Result (Unit {0}) ToolFault → Type 0
 FinishesText Q contents start now bytes state (Ok _) = IsAllAfter Q contents start now bytes state.lined.answers
 FinishesText Q contents start now bytes state (Err fault) = IsCutAfter Q contents start now bytes fault
 
--- The first bytes were split into a mark, which is passed over, and a text, which was taken as lines. `before` and
--- `after` are the output, `old` and `new` the state.
+-- The first bytes were split into a mark, which is passed over, and a text, which was taken as lines, with this
+-- result. `before` and `after` are the output, `old` and `new` the state.
 pub record Begins {A W : Type 0} (Q : A → Answered A) (longest : ℕ) (contents : W → Option (List ℕ))
     (old new : Text A) (before after : Device W) (result : Result (Option (Unit {0})) ToolFault) : Type 0 where
   pub mark : List ℕ

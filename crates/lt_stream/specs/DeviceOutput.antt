@@ -6,12 +6,13 @@ use Rattle.lt_jar.specs.declared.devices.Device.{Device}
 use Rattle.lt_stream.specs.declared.faults.ToolFault.{ToolFault}
 use Rattle.lt_stream.specs.declared.faults.ToolFault.TheVariants as faults
 
--- `written` is a front of the text
+-- `written` is a front of the text: its first bytes, perhaps none or all of them
 abbrev pub IsFrontOf : List ℕ → List ℕ → Type 0
 IsFrontOf written text = (rest : List ℕ) × (text ≡ written ++ rest)
 
--- The text was written, or a write failed and a front of the text was written. `before` and `after` are the device.
--- `contents` tells what the device's own writer has taken.
+-- The whole text was written and no write failed (`done`), or a write failed, the result is the fault Write
+-- (`stopped`), and `written`, a front of the text, was written. `before` and `after` are the device. `contents` tells
+-- what the writer in the device has taken, where that is known.
 pub record WritesText {W : Type 0} (contents : W → Option (List ℕ)) (text : List ℕ) (before after : Device W)
     (result : Result (Unit {0}) ToolFault) : Type 0 where
   pub written : List ℕ

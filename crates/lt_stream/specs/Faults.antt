@@ -4,7 +4,7 @@ use Rattle.std.specs.Fmt.{decimal}
 use Rattle.lt_stream.specs.declared.faults.ToolFault.{ToolFault}
 use Rattle.lt_stream.specs.declared.faults.ToolFault.TheVariants as faults
 
--- the name of a fault, as it is printed
+-- the name of a fault, as it is printed, without the line that it names
 abbrev pub tool_name_of : ToolFault → List ℕ
 tool_name_of faults.Read = codes "Read"
 tool_name_of faults.Write = codes "Write"

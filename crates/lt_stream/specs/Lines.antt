@@ -14,7 +14,8 @@ use Rattle.lt_stream.specs.declared.faults.ToolFault.TheVariants as faults
 abbrev pub Answered : Type 0 → Type 1
 Answered A = A → List (List ℕ) → List ℕ → Type 0
 
--- what answers lines has answered so few that 64 bits count them with one line more
+-- What answers lines, `answers` now and `first` at the beginning, has answered so few lines that 64 bits count them
+-- with one line more.
 pub record HasLine {A : Type 0} (Q : A → Answered A) (answers : A) : Type 0 where
   pub first : A
   pub lines : List (List ℕ)
@@ -22,8 +23,9 @@ pub record HasLine {A : Type 0} (Q : A → Answered A) (answers : A) : Type 0 wh
   pub answered : Q first answers lines bytes
   pub few : length lines + 1 < 2 ^ 64
 
--- Bytes, `part`, were appended that answer each line whose first bytes, at most `longest`, are `front`, whatever lines
--- were answered before. `owed` and `owed'` are the answers that wait before and after, `old` and `new` is what answers.
+-- The bytes `part` were appended. They answer each line whose first bytes, at most `longest`, are `front`, whatever
+-- lines were answered before. `owed` and `owed'` are the answers that wait before and after, `old` and `new` is what
+-- answers, before and after.
 pub record TakesLine {A : Type 0} (Q : A → Answered A) (longest : ℕ) (front owed owed' : List ℕ)
     (old new : A) : Type 0 where
   pub part : List ℕ
@@ -42,7 +44,8 @@ pub record IsAnsweredToLastFeed {A : Type 0} (Q : Answered A) (bytes written : L
   pub last_one : IsOneLine last
   pub answered : Q answers lines written
 
--- what was written is a front of the bytes `all`, which answer the first lines of the bytes that were read
+-- what was written is a front of the bytes `all`, that is, the first of them, perhaps none or all; and `all` answer
+-- some first lines, `lines`, of the bytes that were read
 pub record IsBegun {A : Type 0} (Q : Answered A) (bytes written : List ℕ) : Type 0 where
   pub lines : List (List ℕ)
   pub others : List (List ℕ)
@@ -65,8 +68,8 @@ pub record IsStoppedByRead {I A : Type 0} (Q : Answered A) (input input' : Devic
   pub failed : HasFailed input input'
   pub owed : IsAnsweredToLastFeed Q text written answers
 
--- the most reads that a run may make were made, each gave a byte at least, also the last, and the lines of the text up
--- to its last line feed (10) are answered
+-- the most reads that a run may make were made, they gave at least as many bytes, the last gave some, and the lines of
+-- the text up to its last line feed (10) are answered
 pub record IsStoppedByTurns {I A : Type 0} (Q : Answered A) (input' : Device I) (reads : ℕ)
     (read text written : List ℕ) (answers : A) : Type 0 where
   pub all_made : reads ≡ most_reads
@@ -74,8 +77,10 @@ pub record IsStoppedByTurns {I A : Type 0} (Q : Answered A) (input' : Device I) 
   pub last_gave : 0 < last_given_of input'
   pub owed : IsAnsweredToLastFeed Q text written answers
 
--- How the run ended, by its answer: done, or with a fault. It read the bytes `read`, of which `text` are the lines. An
--- end by OutOfMemory says nothing more. Names with ' are of the devices after the run.
+-- How the run ended, by its result: done, or with the fault Read, TooManyTurns, Write or OutOfMemory, and no other. It
+-- made so many `reads`, which gave the bytes `read`, and `text` are the bytes of these that are cut into lines. Of an
+-- end by Write only the failure of the output is said, and of an end by OutOfMemory nothing. Names with ' are of the
+-- devices after the run.
 abbrev pub EndsAs : {I O A : Type 0} → Answered A → (I → Option (List ℕ)) → (input input' : Device I)
     → (output output' : Device O) → ℕ → (read text written : List ℕ) → A → Result (Unit {0}) ToolFault → Type 0
 EndsAs Q remaining input input' output output' reads read text written answers (Ok _) =
@@ -89,9 +94,10 @@ EndsAs Q remaining input input' output output' reads read text written answers (
 EndsAs Q remaining input input' output output' reads read text written answers (Err faults.OutOfMemory) = Unit {0}
 EndsAs Q remaining input input' output output' reads read text written answers (Err _) = ⊥
 
--- A run that answers the lines of a reader. Whatever ended it, what was written is a front of the answers. The result
--- names a device that failed (`read_rises`, `write_rises`). Names with ' are of the devices after it; `remaining` tells
--- what a reader has still to give, `contents` what a writer has taken.
+-- A run that answers the lines of a reader. It made so many `reads`, at most 10,000,000, which gave the bytes `read`.
+-- Whatever ended it, the bytes `written` are a front of the answers (`begun`). If the count of failures of the input or
+-- the output rises, the result says so (`read_rises`, `write_rises`). Names with ' are of the devices after the run;
+-- `remaining` tells what a reader has still to give, `contents` what a writer has taken.
 pub record RunsOverLines {I O A : Type 0} (Q : Answered A) (remaining : I → Option (List ℕ))
     (contents : O → Option (List ℕ)) (input input' : Device I) (output output' : Device O) (answers : A)
     (result : Result (Unit {0}) ToolFault) : Type 0 where

@@ -17,7 +17,8 @@ RunFact O P = O → O → List ℕ → P → Type 0
 abbrev pub EndFact : Type 0 → Type 0 → Type 0 → Type 1
 EndFact O P A = O → O → List ℕ → P → Result A ToolFault → Type 0
 
--- `T` is true of a run so far. With `count` further bytes it has read fewer than 2^63, so that 64 bits count them.
+-- `T` is true of a run so far, and with `count` further bytes the run has read fewer than 2^63, so that 64 bits count
+-- them
 pub record HasRoom {O P : Type 0} (T : P → RunFact O P) (count : ℕ) (now : O) (state : P) : Type 0 where
   pub first : P
   pub start : O
@@ -67,8 +68,8 @@ pub record IsStoppedByRead {I A : Type 0} (T : List ℕ → Type 0) (input input
   pub failed : HasFailed input input'
   pub taken : T read
 
--- the most reads that a run may make were made, each gave a byte at least, also the last, and `T` is true of the bytes
--- that were read
+-- the most reads that a run may make were made, they gave at least as many bytes, the last gave some, and `T` is true
+-- of the bytes that were read
 pub record IsStoppedByTurns {I A : Type 0} (T : List ℕ → Type 0) (input input' : Device I) (reads : ℕ)
     (read : List ℕ) (result : Result A ToolFault) : Type 0 where
   pub fault : result ≡ Err faults.TooManyTurns
@@ -85,9 +86,10 @@ pub record IsWithoutMemory {I A : Type 0} (T : List ℕ → Type 0) (input input
   pub same : failures_of input' ≡ failures_of input
   pub taken : T read
 
--- A run over the pieces of a reader's bytes, and the way in which it ended. `T` is true while it goes on, `S` where a
--- piece ends it, and `F` where the reader has no more. `input` and `input'` are the reader's device, `start` and `now`
--- the output.
+-- A run over the pieces of a reader's bytes, and the way in which it ended, one of five. It made so many `reads`, which
+-- gave the bytes `read`. `T` is true while it goes on, `S` where a piece ends it, and `F` where the reader has no more.
+-- `input` and `input'` are the reader's device before and after it, `start` and `now` the output, and `remaining` tells
+-- what a reader has still to give.
 pub record RunsPieces {I O P A : Type 0} (T : RunFact O P) (S F : EndFact O P A) (remaining : I → Option (List ℕ))
     (input input' : Device I) (start now : O) (state : P) (result : Result A ToolFault) : Type 0 where
   pub read : List ℕ

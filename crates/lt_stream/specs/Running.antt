@@ -1,4 +1,4 @@
--- The bounds of what a run reads.
+-- How long a row may be that a run reads, and how many reads a run has made.
 use Rattle.std.specs.Prelude.{◌≡◌, ℕ}
 use Rattle.lt_jar.specs.Devices.{after_reads, reads_of}
 use Rattle.lt_jar.specs.declared.devices.Device.{Device}

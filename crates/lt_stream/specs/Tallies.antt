@@ -34,13 +34,14 @@ faults_of tallies = map (λ tally. tally.fault.items) tallies
 abbrev pub with_name : (names : List (List ℕ)) → (name : List ℕ) → List (List ℕ)
 with_name names name = if is_member bytes_eq names name then names else names ++ name ∷ []
 
--- these names, and after them the faults that refused the lines, in the order in which they came
+-- these names, and after them the names of the faults that refused the lines, each once, in the order in which they
+-- came
 abbrev pub names_from : (names : List (List ℕ)) → List Refused → List (List ℕ)
 names_from names [] = names
 names_from names (line ∷ lines) = names_from (with_name names line.fault) lines
 
--- the tallies of these lines: one for each fault that refused any, in the order in which the faults came, and no fault
--- twice
+-- The tallies of these lines: each counts the lines of its fault (`each`), no fault has two (`once`), each fault that
+-- refused a line has one (`all`), and they stand in the order in which the faults came.
 pub record AreTallies (lines : List Refused) (tallies : List Tally) : Type 0 where
   pub each : AllByRecursion (IsTally lines) tallies
   pub once : IsDistinct bytes_eq (faults_of tallies)

@@ -14,8 +14,8 @@ use Rattle.lt_stream.specs.declared.faults.ToolFault.TheVariants as faults
 abbrev pub IsRefusedFront : List ℕ → ToolFault → Type 0
 IsRefusedFront bytes fault = ((fault ≡ faults.Utf16) × IsWide bytes) ⊎ (fault ≡ faults.OutOfMemory)
 
--- How the run ended. It read these bytes, of which `text` follows the mark. It ended as a run over the lines of `text`
--- does, or by a mark of UTF-16, and then nothing was written.
+-- How the run ended. Its `reads` gave the bytes `read`, of which `text` follows the mark. It ended as a run over the
+-- lines of `text` does, or by a mark of UTF-16 (Utf16), and then nothing was written.
 abbrev pub EndsAfterMark : {I O A : Type 0} → Answered A → (I → Option (List ℕ)) → (input input' : Device I)
     → (output output' : Device O) → ℕ → (read text written : List ℕ) → A → Result (Unit {0}) ToolFault → Type 0
 EndsAfterMark Q remaining input input' output output' reads read text written answers (Err faults.Utf16) =
@@ -23,10 +23,11 @@ EndsAfterMark Q remaining input input' output output' reads read text written an
 EndsAfterMark Q remaining input input' output output' reads read text written answers result =
     EndsAs Q remaining input input' output output' reads read text written answers result
 
--- A run that answers the lines of a text. The byte order mark of UTF-8 with which the bytes may begin is no part of it,
--- and bytes that begin with one of UTF-16 are refused (`narrow`). The result names a device that failed (`read_rises`,
--- `write_rises`). Names with ' are of the devices after the run; `remaining` tells what a reader has still to give,
--- `contents` what a writer has taken.
+-- A run that answers the lines of a text. Its `reads`, at most 10,000,000, gave the bytes `read`. A byte order mark of
+-- UTF-8 at their beginning is no part of the text, and bytes that begin with one of UTF-16 are refused (`narrow`).
+-- Whatever ended the run, the bytes `written` are a front of the answers (`begun`). If the count of failures of the
+-- input or the output rises, the result says so (`read_rises`, `write_rises`). Names with ' are of the devices after
+-- the run; `remaining` tells what a reader has still to give, `contents` what a writer has taken.
 pub record RunsOverText {I O A : Type 0} (Q : Answered A) (remaining : I → Option (List ℕ))
     (contents : O → Option (List ℕ)) (input input' : Device I) (output output' : Device O) (answers : A)
     (result : Result (Unit {0}) ToolFault) : Type 0 where

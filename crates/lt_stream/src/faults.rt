@@ -17,8 +17,8 @@ pub enum ToolFault {
     TooManyTurns,
     /// Memory ran out.
     OutOfMemory,
-    /// The reader ended within the quotes of a record of CSV, which begins in this line, counted from 1; or a record
-    /// that does is longer than 16,777,216 bytes.
+    /// The record of CSV that begins in this line, counted from 1, can't be read: the reader ended within its quotes,
+    /// or it is longer than 16,777,216 bytes.
     BadCsv(u64),
     /// The row in this line, counted from 1, is longer than 16,777,216 bytes.
     BadTsv(u64),
@@ -27,7 +27,7 @@ pub enum ToolFault {
 }
 
 impl ToolFault {
-    /// The fault's name, as it is written here: `Read`.
+    /// The fault's name, as its variant is called: for example `BadCsv`, without the number of its line.
     pub fn name(self) -> &'static str
         ensures { result.now ≡ tool_name_of self }
     {
@@ -43,7 +43,7 @@ impl ToolFault {
     }
 }
 
-/// By this `?` makes the fault `OutOfMemory` of a lack of memory; so says `from_gives`.
+/// With this, `?` turns a lack of memory into the fault `OutOfMemory`, as `from_gives` says.
 impl From<AllocError> for ToolFault {
     ghost from_gives = { λ _ fault. fault ≡ faults.OutOfMemory };
 
@@ -52,7 +52,7 @@ impl From<AllocError> for ToolFault {
     }
 }
 
-/// The same, of the lack of memory of a call of `lt_tag`.
+/// With this, `?` does the same with the lack of memory that a call of `lt_tag` gives.
 impl From<OutOfMemory> for ToolFault {
     ghost from_gives = { λ _ fault. fault ≡ faults.OutOfMemory };
 

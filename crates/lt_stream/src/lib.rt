@@ -1,5 +1,5 @@
-//! Runs over readers: the lines that are cut, the answers to them, what ends a run, and how many were refused by each
-//! fault. It is a part of the program `langtag`; a program of your own begins with the crate `bcp47`.
+//! Runs over readers: the lines that are cut, the answers to them, what ends a run, and how many lines were refused by
+//! each fault. It is a part of the program `langtag`; a program of your own begins with the crate `bcp47`.
 #![tactic(auto)]
 
 mod device_output;

@@ -1,5 +1,5 @@
-//! Runs over the lines of a reader. The first bytes of a line are kept until its line feed comes, and the answers that
-//! wait to be written are owed.
+//! Runs over the lines of a reader. The first bytes of a line, its front, are kept until its line feed comes, and the
+//! answers that wait to be written are owed.
 ghost use Rattle.std.specs.Prelude.{◌≡◌, ◌<◌, ◌≤◌, List, ℕ, [], IfOk, OnOk, vec_len};
 ghost use Rattle.lt_stream.specs.Lines.{HasLine, RunsOverLines, TakesLine};
 ghost use Rattle.lt_stream.specs.Lined as spec;
@@ -13,7 +13,7 @@ use lt_tag::OutOfMemory;
 use std::alloc::{AllocError, Global};
 use std::io::{Read, Write};
 
-/// Answers are written once they are this many bytes, as many as a read may give, if no read comes before.
+/// Answers wait to be written until they are this many bytes, as many as a read may give, or until the next read.
 const FULL: usize = 65536;
 
 /// What answers lines, one by one.
@@ -21,16 +21,17 @@ pub trait Lines {
     /// The most bytes that are kept of a line.
     ghost longest: { ℕ };
 
-    /// What holds of this at the beginning and of this now, once it has answered these lines, by these bytes in all.
+    /// What is true of `self` at the beginning and `self` now, once it has answered these lines with these bytes.
     ghost answered: { Self → Self → List (List ℕ) → List ℕ → Type 0 };
 
     /// The most bytes that are kept of a line: its answer is the same whatever follows them.
     fn longest(&self) -> usize
         ensures { result ≡ longest };
 
-    /// Answers a line, of which `line` is the front that is kept: appends the answer to `owed`, where answers wait to
-    /// be written. The clause holds for each line with this front, and whatever was answered before. The lines answered
-    /// must be so few that 64 bits count them with this one. Refused where memory runs out.
+    /// Answers a line, of which `line` is the front that is kept: its first bytes, at most `longest`. The answer is
+    /// appended to `owed`, where answers wait to be written. The clause holds for each line with this front, whatever
+    /// was answered before. The lines answered must be so few that 64 bits count them with this one. Refused where
+    /// memory runs out.
     fn take_line(
         &mut self,
         alloc: Global,
@@ -45,14 +46,14 @@ pub trait Lines {
 #[derive(Drop)]
 pub(crate) struct Lined<A> {
     answers: A,
-    /// The front of the line that no line feed ended so far.
+    /// The front of the last line, which no line feed ended so far: its first bytes, as many as the answers need.
     kept: Vec<u8>,
     /// Answers that are not yet written.
     owed: Vec<u8>,
 }
 
 impl<A: Lines> Lined<A> {
-    /// Before any line is read nothing is kept or owed.
+    /// The state before any line is read: nothing is kept or owed.
     pub(crate) fn new(alloc: Global, answers: A) -> Lined<A>
         ensures answers { result.answers ≡ answers }
         ensures kept { result.kept.items ≡ [] }
@@ -65,7 +66,8 @@ impl<A: Lines> Lined<A> {
         }
     }
 
-    /// Keeps a further part of the line, up to the most bytes that the answers need. Refused where memory runs out.
+    /// Appends a further part of the line to the front that is kept, which grows to at most `longest` bytes. Refused
+    /// where memory runs out.
     fn keep(&mut self, part: &[u8]) -> Result<(), AllocError>
         ensures { OnOk result (spec.KeepsMore A.longest part.now self.old self.new) }
     {
@@ -85,9 +87,8 @@ impl<A: Lines> Lined<A> {
         Ok(())
     }
 
-    /// Writes the answers that wait, so that none waits then. Refused if a write fails. By `writes` what was written
-    /// and what still waits is what waited, or, where the write fails, a front of what waited was written; by `emptied`
-    /// nothing waits unless it fails.
+    /// Writes the answers that wait, so that none waits then (`emptied`). Refused if a write fails: then the first
+    /// bytes of what waited were written, perhaps none (`writes`).
     fn write<W: Write>(&mut self, output: &mut Device<W>) -> Result<(), ToolFault>
         ensures writes { spec.WritesOwed W.contents self.old self.new output.old output.new result }
         ensures emptied { OnOk result (self.new.owed.items ≡ []) }
@@ -97,7 +98,7 @@ impl<A: Lines> Lined<A> {
         Ok(())
     }
 
-    /// Writes the answers that wait if they are `FULL` bytes or more, and else nothing. Refused if a write fails.
+    /// Writes the answers that wait if they are `FULL` bytes or more, and else nothing. Refused as `write` is.
     fn write_much<W: Write>(&mut self, output: &mut Device<W>) -> Result<(), ToolFault>
         ensures writes { spec.WritesOwed W.contents self.old self.new output.old output.new result }
         ensures emptied { OnOk result (spec.full ≤ vec_len self.old.owed → self.new.owed.items ≡ []) }
@@ -145,8 +146,8 @@ impl<A: Lines, W: Write> Pieces<Device<W>> for Lined<A> {
     /// At the end all lines are answered and all answers written, or a fault ended the run as above.
     ghost finished = { λ first. spec.Finishes (A.answered first.answers) W.contents };
 
-    /// Answers the lines that the piece ends, and writes the answers. It never ends the run but by a fault: a failed
-    /// write, or lack of memory.
+    /// Answers the lines that the piece ends, and writes the answers. It gives None, or the fault that ends the run: a
+    /// failed write, or lack of memory.
     fn take_piece(
         &mut self,
         alloc: Global,
@@ -175,16 +176,16 @@ impl<A: Lines, W: Write> Pieces<Device<W>> for Lined<A> {
 }
 
 /// Answers the lines of a reader, in their order, and gives back what answered them. `answers` must have answered
-/// nothing before (`first`), and must keep at least one byte of a line (`some`), which tells of a last line without a
-/// line feed.
+/// nothing before (`first`), and must keep at least one byte of a line (`some`): by that byte the run knows at the end
+/// that there is a last line without a line feed.
 ///
-/// A line feed ends a line, and what follows the last one is a line if it is anything. The answers to the lines of
-/// the bytes that were read are written before the next read. Of a line that goes on no more is kept than the answers
-/// need.
+/// A line feed ends a line, and the bytes after the last line feed are a line too, if there are any. Before each read
+/// the answers to all lines that ended so far are written. Of a line that goes on, at most `longest` bytes are kept.
 ///
 /// - `Read`, if a read fails: the answer to each line whose line feed was read has been written.
 /// - `TooManyTurns`, if all 10,000,000 reads were made and the last gave bytes: the same answers have been written.
-/// - `Write`, if a write fails or takes none of some bytes, and `OutOfMemory`: a front of the answers was written.
+/// - `Write`, if a write fails or takes none of some bytes, and `OutOfMemory`, if memory runs out: the first bytes of
+///   the answers have been written, perhaps none.
 pub fn run_lines<A: Lines + Drop, R: Read, W: Write>(
     alloc: Global,
     answers: A,

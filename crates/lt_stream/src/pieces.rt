@@ -8,7 +8,7 @@ use lt_jar::Device;
 use std::alloc::Global;
 use std::io::Read;
 
-/// The most reads of one run, so that it ends even where the reader has no end.
+/// The most reads of one run, so that a run ends even if its reader never does.
 const MOST_READS: u32 = 10_000_000;
 
 /// The most bytes that a read is asked for.
@@ -19,19 +19,19 @@ pub trait Pieces<O> {
     /// What is known at the end.
     type Answer;
 
-    /// What holds while a run goes on: of this at its beginning, of the output at its beginning and now, of the bytes
-    /// that were read, and of this now.
+    /// What is true while a run goes on, of five values: `self` at the beginning of the run, the output at the
+    /// beginning and now, the bytes that were read, and `self` now.
     ghost taken: { Self → O → O → List ℕ → Self → Type 0 };
 
-    /// What holds where a piece ends the run: of the values that `taken` relates, and of the answer.
+    /// What is true where a piece ends the run, of the values that `taken` relates and the result of the run.
     ghost stopped: { Self → O → O → List ℕ → Self → Result Self.Answer ToolFault → Type 0 };
 
-    /// What holds where the reader has ended: of the values that `taken` relates, and of the answer.
+    /// What is true where the reader has ended, of the values that `taken` relates and the result of the run.
     ghost finished: { Self → O → O → List ℕ → Self → Result Self.Answer ToolFault → Type 0 };
 
     /// Takes the next bytes. An answer, or a fault, ends the run; with None it goes on. The run must have read less
-    /// than 2^63 bytes, these bytes counted too, so that 64 bits count its lines. Each has, as it makes at most
-    /// 10,000,000 reads of 65,536 bytes.
+    /// than 2^63 bytes, these bytes counted too, so that 64 bits count its lines. That is so in each run of
+    /// [`run_pieces`], since it makes at most 10,000,000 reads of at most 65,536 bytes.
     fn take_piece(
         &mut self,
         alloc: Global,
@@ -47,12 +47,14 @@ pub trait Pieces<O> {
         ensures { FinishesPieces taken finished output.old output.new self.old self.new result };
 }
 
-/// Reads a reader, and hands its bytes to `pieces` until that has an answer, or to the end of the reader. It gives the
-/// answer. What `taken` says must hold before the first read, of an output that is as at the beginning and of no bytes.
+/// Reads a reader, and hands its bytes to `pieces` until `take_piece` gives an answer, or else to the end of the
+/// reader, where `finish` gives one. It gives this answer. What `taken` says must be true before the first read, with
+/// no bytes read and the output unchanged.
 ///
 /// - `Read`, if a read fails.
 /// - `TooManyTurns`, if all 10,000,000 reads were made and the last gave bytes.
-/// - `OutOfMemory`, if there is no memory for a piece; and any fault with which `pieces` ends the run.
+/// - `OutOfMemory`, if there is no memory for a piece.
+/// - Any fault that `take_piece` or `finish` gives.
 pub fn run_pieces<O, P: Pieces<O>, R: Read>(
     alloc: Global,
     pieces: &mut P,

@@ -12,9 +12,9 @@ pub struct Tally {
     pub fault: Vec<u8>,
     /// How many lines were refused by it.
     pub lines: u64,
-    /// The number of the first of them.
+    /// The number of the first of these lines.
     pub first: u64,
-    /// What was refused there.
+    /// The text that was refused in that first line.
     pub text: Vec<u8>,
 }
 
@@ -49,7 +49,7 @@ fn new_tally(alloc: Global, fault: &[u8], number: u64, text: &[u8]) -> Result<Ta
 }
 
 impl Tallies {
-    /// No line was refused so far.
+    /// The tallies before any line is refused: none.
     pub fn new(alloc: Global) -> Tallies
         ensures { result ≡ [] }
     {
@@ -74,9 +74,10 @@ impl Tallies {
             .position(|tally| fault == tally.fault.as_slice())
     }
 
-    /// Counts a line that was refused: its number, the name of its fault, and the text that was refused. Where memory
-    /// runs out, nothing is counted (`unchanged`). The clause `counted` is on every list of lines that these may be the
-    /// tallies of, since they don't keep the lines; the list must be so short that 64 bits count one line more.
+    /// Counts a line that was refused, by the name of its fault. Its `number` and the refused `text` are kept only if
+    /// it is the first line of its fault. Refused where memory runs out: then nothing is counted (`unchanged`). Since
+    /// the tallies don't keep the lines, the clause `counted` holds for every list of lines whose tallies they may be,
+    /// if 64 bits count one line more than the list has.
     pub fn count(
         &mut self,
         alloc: Global,

@@ -15,10 +15,10 @@ use lt_rows::{is_wide, may_be_mark, split_mark};
 use std::alloc::Global;
 use std::io::{Read, Write};
 
-/// Adds the next bytes to the first ones of a text (`added`), and tells whether they may still be a part of a byte
-/// order mark (`waits`). Bytes that it doesn't refuse begin with none of UTF-16 (`narrow`).
+/// Appends the next bytes of a text to its front (`added`), and tells whether all of them may still be a part of a byte
+/// order mark (`waits`). If it doesn't refuse them, they begin with no mark of UTF-16 (`narrow`).
 ///
-/// - `Utf16`, if they begin with one of UTF-16.
+/// - `Utf16`, if they begin with a byte order mark of UTF-16.
 /// - `OutOfMemory`, if memory runs out.
 pub fn take_front(front: &mut Vec<u8>, piece: &[u8]) -> Result<bool, ToolFault>
     ensures added { IfOk result (λ _. front.new.items ≡ front.old.items ++ piece.now) }
@@ -38,15 +38,15 @@ pub fn take_front(front: &mut Vec<u8>, piece: &[u8]) -> Result<bool, ToolFault>
 struct Text<A> {
     /// The first bytes, while they may be a part of a mark.
     front: Vec<u8>,
-    /// Whether the mark, if there is one, is passed over, and what follows goes to the lines.
+    /// Whether the front is known: its mark, if it has one, was passed over, and all bytes after it go to the lines.
     is_begun: bool,
     lined: Lined<A>,
 }
 
 impl<A: Lines> Text<A> {
-    /// Passes over the byte order mark of the first bytes, if there is one, and takes what follows it as lines. The run
-    /// must have read less than 2^63 bytes, the first bytes counted too, as `Lined::take_piece` requires. Only a fault
-    /// ends the run here: a failed write, or lack of memory.
+    /// Passes over the byte order mark of the front, if there is one, and takes the bytes after it as lines. The run
+    /// must have read less than 2^63 bytes, the front counted too, as `Lined::take_piece` requires. It gives None, or
+    /// the fault that ends the run: a failed write, or lack of memory.
     fn begin<W: Write>(
         &mut self,
         alloc: Global,
@@ -64,18 +64,19 @@ impl<A: Lines> Text<A> {
 impl<A: Lines, W: Write> Pieces<Device<W>> for Text<A> {
     type Answer = ();
 
-    /// Between two pieces the first bytes wait, or the whole lines after the mark are answered, and all answers
-    /// written.
+    /// Between two pieces the front waits, or the whole lines after the mark are answered, and all answers written.
     ghost taken = { λ first. spec.IsTakenText (A.answered first.lined.answers) A.longest W.contents };
 
-    /// A piece ends the run only by a fault: by a mark of UTF-16, or with a front of the answers written.
+    /// A piece ends the run only by a fault: a mark of UTF-16, a failed write, or lack of memory. In each case the
+    /// first bytes of the answers are written, perhaps none.
     ghost stopped = { λ first start now read _ result. spec.StopsText (A.answered first.lined.answers) W.contents start now read result };
 
     /// At the end all lines after the mark are answered and all answers written, or a fault ended the run as above.
     ghost finished = { λ first. spec.FinishesText (A.answered first.lined.answers) W.contents };
 
-    /// Answers the lines that the piece ends. The first bytes wait until it is known whether they are a byte order mark;
-    /// that of UTF-16 is refused. Only a fault ends the run here.
+    /// Answers the lines that the piece ends. The front waits until it is known whether it begins with a byte order
+    /// mark. It gives None, or the fault that ends the run: `Utf16` for a mark of UTF-16, a failed write, or lack of
+    /// memory.
     fn take_piece(
         &mut self,
         alloc: Global,
