@@ -50,8 +50,8 @@ impl Marked {
         }
     }
 
-    /// Splits the first bytes, which are kept, into a byte order mark, if there is one, and text: writes the mark, and
-    /// answers the lines of the text. Refused at a row or a record that is too long, and where memory runs out or a
+    /// Ends the wait for a byte order mark: writes the mark with which the kept bytes begin, if there is one, and answers
+    /// the lines of what follows it. Refused at a row or a record that is too long, and where memory runs out or a
     /// write fails. The counts must have room for one line more than bytes are kept.
     fn begin<L: Lookup, W: Write>(
         &mut self,

@@ -10,7 +10,8 @@ use std::simd::prelude::*;
 /// How many bytes are looked at together: a vector of 512 bits. A `u64` has one bit for each of these bytes.
 pub(crate) const LANES: usize = 64;
 
-/// Where a byte is among the first 64 of a text, which must have so many: bit k is set where it is at place k.
+/// Where a byte is among the first 64 of a text: bit k is set where it is at place k. The text must have at least 64
+/// bytes.
 #[inline(always)]
 fn bits_of(byte: u8, text: &[u8]) -> u64
     requires { 64 ≤ length text.now }
@@ -21,7 +22,7 @@ fn bits_of(byte: u8, text: &[u8]) -> u64
         .to_bitmask()
 }
 
-/// How many of the first 64 bytes of a text, which must have so many, are equal to `byte`.
+/// How many of the first 64 bytes of a text are equal to `byte`. The text must have at least 64 bytes.
 #[inline(always)]
 fn count_in_lanes(byte: u8, text: &[u8]) -> usize
     requires { 64 ≤ length text.now }

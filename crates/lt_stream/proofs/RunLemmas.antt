@@ -60,7 +60,7 @@ run_lacks T S F remaining input start state first = record {
 module _ {I O P A : Type 0} (T : P → RunFact O P) (S F : P → EndFact O P A) (remaining : I → Option (List ℕ))
     (input before : Device I) (first : P) (start now : O)
     (state : P) (turn : ℕ) (t : RunTurn (T first) remaining input before start now state turn) where
-  -- the bytes that were read, and those of one piece more, are fewer than 2 to the 63
+  -- the bytes that were read, with those of one piece more, are fewer than 2 to the 63
   pub run_room : (count : ℕ) → turn < most_reads → count ≤ 65536 → HasRoom T count now state
   run_room count few short = record {
     first = first;

@@ -1,5 +1,5 @@
--- `Tallies::count`: the tallies of some refused lines become those of them and one more, whose fault has a tally
--- (`counted`) or none (`begun`).
+-- What `Tallies::count` does for one refused line more, whose fault has a tally already (`counted`) or none yet
+-- (`begun`), makes of the tallies of the lines before it the tallies of all lines.
 use Rattle.std.proofs.Common.{◌≡◌, ◌≤◌, ◌<◌, ◌+◌, ◌++◌, ◌∷◌, ◌∙◌, inl, inr, ℕ, zero, suc, List, [], true, false, Some}
 use Rattle.std.proofs.Common.{None, cond, length, min, nat_lt, sym, ap, refl, subst, arith, get_or, set}
 use Rattle.std.specs.List.{AllByRecursion, IsDistinct, count_by, find, position, position_or_len}
@@ -17,7 +17,7 @@ use Rattle.std.proofs.lemmas.Slice.Eq.{bytes_eq-Decides}
 use Rattle.lt_stream.specs.Tallies.{AreTallies, IsTally, Refused, faults_of, is_by, names_from, with_name}
 use Rattle.lt_stream.specs.declared.tallies.Tally.{Tally}
 
--- no lines have no tallies
+-- where no line was refused, there is no tally
 pub no_tallies : AreTallies [] []
 unfolding IsDistinct
 no_tallies = record { each = tt; once = tt; all = tt; order = refl }
@@ -26,7 +26,7 @@ no_tallies = record { each = tt; once = tt; all = tt; order = refl }
 differs : (a b : List ℕ) → bytes_eq a b ≡ false → bytes_eq b a ≡ false
 differs a b other = nat_list_eq_equiv.symm b a ∙ other
 
--- of these lines and one line more, a fault refused as many as of these lines, and one more if it refused that line
+-- with one line more, a fault refused one more if it refused that line, and else as many as before
 count_more : (fault : List ℕ) (lines : List Refused) (line : Refused) → count_by (is_by fault) (lines ++ line ∷ [])
     ≡ count_by (is_by fault) lines + cond (is_by fault line) 1 0
 count_more fault lines line =
