@@ -46,8 +46,8 @@ value_at R c (at_variant i) s = variant_value R s
 value_at R c (at_variant_language i) s =
     let f = language_beside R c.language in if list_all (λ v. is_none (f v)) (take i c.variants) then f s else None
 
--- The core with the value `v` for the subtag at a spot. At `at_extlang` and `at_variant_language` the subtag is dropped,
--- and the value becomes the language; else the value is put in the subtag's place (RFC 5646, 4.5, rule 3).
+-- The core with the value `v` for the subtag at a spot. At `at_extlang` and `at_variant_language` the subtag is
+-- dropped, and the value becomes the language; else the value is put in the subtag's place (RFC 5646, 4.5, rule 3).
 abbrev pub replaced : CoreParts → Spot → List ℕ → CoreParts
 replaced c at_extlang v = record c { language = v; extlangs = [] }
 replaced c at_language v = record c { language = v }
