@@ -22,7 +22,7 @@ pub data Equivalent {A : Type 0} (Step : A → A → Type 0) : A → A → Type 
   forth : {a b c : A} → Step a b → Equivalent Step b c → Equivalent Step a c
   back : {a b c : A} → Step b a → Equivalent Step b c → Equivalent Step a c
 
--- if steps lead from a value of which `P` is true to two values, steps lead from both of them to a common third, so that
--- the order of steps does not matter
+-- if steps lead from a value of which `P` is true to two values, steps lead from both of them to a common third, so
+-- that the order of steps does not matter
 abbrev pub IsConfluent : {A : Type 0} → (A → Type 0) → (A → A → Type 0) → Type 0
 IsConfluent {A} P Step = (a b c : A) → P a → Star Step a b → Star Step a c → (d : A) × Star Step b d × Star Step c d

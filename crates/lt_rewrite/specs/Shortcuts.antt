@@ -13,8 +13,8 @@ use Rattle.lt_rewrite.specs.ChainEnds.{following}
 abbrev pub IsOnward : (List ℕ → Option (List ℕ)) → ℕ → List ℕ → List ℕ → Type 0
 IsOnward f n s t = (m : ℕ) × (n ≤ m) × (chase f m s ≡ t)
 
--- the record at the index `place` of `R` has this kind, and to its value leads the subtag `v` over at least `n` values,
--- or over fewer if that value is the end of the chain
+-- the record at the index `place` of `R` has this kind, and the subtag `v` leads to the record's value over at least
+-- `n` values, or over fewer if that value is the end of the chain
 pub record LeadsTo (R : List EntryParts) (kind : Kind) (n : ℕ) (v : List ℕ) (place : ℕ) : Type 0 where
   pub entry : EntryParts
   pub there : slice_get R place ≡ Some entry
