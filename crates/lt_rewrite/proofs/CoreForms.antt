@@ -77,15 +77,15 @@ module _ (R : List EntryParts) (C : MeetsCoreConditions R) where
   abbrev Final : List ℕ → Type 0
   Final v = variant_value R v ≡ None
 
-  -- the language and the variants after the leftmost VariantLanguage step with the language `x`, as the first argument
-  -- takes them further; `x` and `vs` themselves if no variant has such a step
+  -- what `go` makes of the language and the variants to which the leftmost VariantLanguage step beside `x` leads, with
+  -- the new language at the end of its chain; `x` and `vs` themselves if no variant has such a step
   abbrev taken : (List ℕ → List (List ℕ) → List ℕ × List (List ℕ)) → (x : List ℕ) (vs : List (List ℕ))
       → Pick (language_beside R x) vs → List ℕ × List (List ℕ)
   taken go x vs (inl p) = go (last kinds.Language p.value) (p.before ++ p.after)
   taken go x vs (inr none) = (x, vs)
 
-  -- the language and the variants after at most `n` VariantLanguage steps from a language without a value and from
-  -- variants, where each new language is led to the end of its chain
+  -- the language and the variants to which at most `n` VariantLanguage steps lead from a language `x` without a value
+  -- and the variants `vs`, each new language being led to the end of its chain
   abbrev settled : ℕ → List ℕ → List (List ℕ) → List ℕ × List (List ℕ)
   settled zero x vs = (x, vs)
   settled (suc n) x vs = taken (settled n) x vs (pick (language_beside R x) vs)
