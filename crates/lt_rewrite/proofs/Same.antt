@@ -1,4 +1,4 @@
--- The test of equal tags decides equality.
+-- Tags that pass the test `same_tag` are equal, and so do the tests of their parts decide equality.
 use Rattle.std.proofs.Common.{◌≡◌, ℕ, true, List, Option, Some, None, refl, ap, bytes_eq}
 use Rattle.std.specs.Bool.{Decides}
 use Rattle.std.specs.Cmp.Lexicographic.{pointwise}
