@@ -33,7 +33,7 @@ use Rattle.lt_rewrite.proofs.ExtensionLeading.{Says, UnicodeKind, as_kind, as_sw
 use Rattle.lt_rewrite.proofs.ExtensionLeading.{drop_keyword, drop_true, in_u, inside_t, inside_u, moved, of_t, of_u}
 use Rattle.lt_rewrite.proofs.ExtensionLeading.{order, said, swap_attributes, swap_keywords, to_fields, to_swaps, told}
 
--- two steps of one kind at one place
+-- the two steps have the same kind and the same place
 record SameSpot (step other : Step) : Type 0 where
   pub kind : step.kind ≡ other.kind
   pub place : step.place ≡ other.place
@@ -273,8 +273,8 @@ module _ (R : List EntryParts) (t : TagForm) (step : Step) where
       → TagLeads R t step (LangTag c fs (private_of t))
   extensions_changed c fs h l = (on_extensions c (extensions_of t) fs (private_of t) (langtag_is t c h) refl l.0, l.1)
 
-  -- a step of another kind than Whole that leads on neither from the core nor from the extensions leads nowhere from the
-  -- tag
+  -- a step of another kind than Whole that leads on neither from the core nor from the extensions leads nowhere from
+  -- the tag
   pub kept : (c : CoreParts) → core_of t ≡ Some c → step.kind ≢ steps.Whole
       → ((d : CoreParts) → CoreLeads R 0 c step d → ⊥)
       → ((fs : List ExtensionParts) → ExtensionsLeads R (length (spell_core c)) (extensions_of t) step fs → ⊥)

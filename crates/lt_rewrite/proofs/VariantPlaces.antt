@@ -36,8 +36,8 @@ pub placed_without : (R : List EntryParts) (vs : List (List ℕ)) (ps : List ℕ
 placed_without R vs ps i h =
     map_remove (slice_get R) ps i ∙ ap (λ (os : List (Option EntryParts)). remove os i) h ∙ sym (map_remove (entry R kinds.Variant) vs i)
 
--- if the variant `v` is set at `i`, and the place `p` of its entry added to those of the variants before `i`, the places
--- are those of the variants up to `i`
+-- if the variant `v` is set at `i`, and the place `p` of its entry added to those of the variants before `i`, the
+-- places are those of the variants up to `i`
 pub placed_more : (R : List EntryParts) (vs : List (List ℕ)) (ps : List ℕ) (i p : ℕ) (v : List ℕ) → i < length vs
     → slice_get R p ≡ entry R kinds.Variant v → ArePlaces R (take i vs) ps
     → ArePlaces R (take (i + 1) (set vs i v)) (ps ++ p ∷ [])
