@@ -1,5 +1,6 @@
 -- Core steps come to an end, since each makes a number lower, and lead from proper cores to proper cores, which spell
--- no grandfathered tag. These are the laws `steps_keep_proper`; a core is proper if its subtags are registered.
+-- no grandfathered tag (the law `steps_keep_proper`). A core is proper if its subtags are registered, and its extlang,
+-- if it has one, belongs to its language.
 use Rattle.std.proofs.Common.{rules, ◌≡◌, ℕ, zero, suc, Bool, true, false, List, [], ◌∷◌, ◌++◌, Option, Some, None}
 use Rattle.std.proofs.Common.{refl, sym, ap, ◌∙◌, subst, length, arith, ◌≤◌, ◌+◌, ◌≢◌, not, ◌<◌, All, ◌-◌, ◌&&◌, ◌||◌}
 use Rattle.std.proofs.Common.{bytes_eq}

@@ -16,7 +16,7 @@ fault_name_of faults.OutOfMemory = codes "OutOfMemory"
 abbrev pub no_memory : ApplyFault
 no_memory = faults.OutOfMemory
 
--- the fault is a true answer for a step on the tag `t`: NoSuchStep only if the step leads from `t` to no tag,
+-- the fault is a true answer for a step on the tag `t`: NoSuchStep only if the step leads from `t` to no proper tag,
 -- OutOfMemory always
 abbrev pub IsApplyFault : List EntryParts → TagForm → Step → ApplyFault → Type 0
 IsApplyFault R t step faults.NoSuchStep = (u : TagForm) → LeadsBy R t step u → ⊥

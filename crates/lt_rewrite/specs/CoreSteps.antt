@@ -24,8 +24,8 @@ pub data Spot : Type 0 where
   -- a variant that is dropped, and whose preferred value takes the place of the language
   at_variant_language : ℕ → Spot
 
--- The subtag at a spot, or None if no step may be taken there (RFC 5646, 4.5, rule 3). An extlang is at a spot only if
--- it is the only one, and the language, or a variant whose value replaces it, only if there is no extlang.
+-- The subtag at a spot, or None if no step may be taken there (RFC 5646, 4.5, rule 3): at an extlang only if it is the
+-- only one, at the language, and at a variant whose value becomes the language, only if there is no extlang.
 abbrev pub subtag_at : CoreParts → Spot → Option (List ℕ)
 subtag_at c at_extlang = if nat_eq (length c.extlangs) 1 then slice_get c.extlangs 0 else None
 subtag_at c at_language = if nat_eq (length c.extlangs) 0 then Some c.language else None

@@ -14,17 +14,17 @@ pub record IsFirstCycle (R : List EntryParts) (number : ℕ) : Type 0 where
   pub endless : HasEndingChain R entry → ⊥
   pub lower : All (λ f. f.number < number → HasEndingChain R f) R
 
--- the place that an order gives to the record with a number: in File the number itself, and in Mixed, so that places
--- have nothing to do with the order of the file, its multiple of 2654435769, which is 2^32 over the golden ratio
+-- The place that an order gives to the record with this number: in File the number itself; in Mixed the number times
+-- 2654435769, which is 2^32 over the golden ratio, modulo 2^32, so that places have nothing to do with the file's order.
 unfoldable pub place : Order → ℕ → ℕ
 place orders.File number = number
 place orders.Mixed number = number * 2654435769 % 2 ^ 32
 
--- the chains of values from all records whose place in an order is below `before` end
+-- the chains from the values of all records whose place in an order is below `before` end
 abbrev pub EarlierEnd : List EntryParts → Order → ℕ → Type 0
 EarlierEnd R order before = All (λ f. place order f.number < before → HasEndingChain R f) R
 
--- if the chains of values from all records before the record `e` in an order end, the chain from `e` ends; if this is
--- true of every record, all chains end
+-- if the chains from the values of all records before the record `e` in an order end, the chain from the value of `e`
+-- ends; if this is true of every record, all chains end
 abbrev pub EndsAfterEarlier : List EntryParts → Order → EntryParts → Type 0
 EndsAfterEarlier R order e = EarlierEnd R order (place order e.number) → HasEndingChain R e

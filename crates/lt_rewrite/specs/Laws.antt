@@ -28,7 +28,7 @@ StepsKeepNormalForm R = (c d e : CoreParts) → CoreStep R c d
     → IsCoreNormalForm R c e → IsCoreNormalForm R d e
 
 -- a core that the type Core can hold, since its subtags have their shapes and are not too many (`value`), and that is
--- proper, since its subtags are registered (`proper`)
+-- proper, since its subtags are registered, and its extlang, if it has one, belongs to its language (`proper`)
 pub record IsProperValue (R : List EntryParts) (c : CoreParts) : Type 0 where
   pub value : IsCoreValue c
   pub proper : IsProperCore R c

@@ -114,7 +114,7 @@ fn replace_extlang<L: Lookup>(table: &L, core: &mut Core, start: usize, step: St
 }
 
 /// Takes `step`, which must be a Language step: the language is replaced by its value. False, and nothing changes, if
-/// the core has no such step; none with extlangs has. The core begins after `start` subtags, at most 1,200,000.
+/// the core has no such step; a core with extlangs has none. The core begins after `start` subtags, at most 1,200,000.
 fn replace_language<L: Lookup>(table: &L, core: &mut Core, start: usize, step: Step) -> bool
     requires kind { step.kind ≡ kinds.Language }
     requires few { start ≤ 1200000 }
@@ -202,7 +202,7 @@ fn replace_variant<L: Lookup>(table: &L, core: &mut Core, start: usize, step: St
 
 /// Takes `step`, which must be a VariantLanguage step: the leftmost variant that has a language as its value, and the
 /// core's language as a Prefix, is dropped, and its value becomes the language. False, and nothing changes, if the core
-/// has no such step; none with extlangs has. The core begins after `start` subtags, at most 1,200,000.
+/// has no such step; a core with extlangs has none. The core begins after `start` subtags, at most 1,200,000.
 fn apply_variant_language<L: Lookup>(table: &L, core: &mut Core, start: usize, step: Step) -> bool
     requires kind { step.kind ≡ kinds.VariantLanguage }
     requires few { start ≤ 1200000 }

@@ -143,7 +143,7 @@ fn variant_language<'a, L: Lookup>(
 }
 
 /// The leftmost variant that a VariantLanguage step may drop: its index, counted from 0, and the language that the step
-/// puts. None if there is no such variant. Extlangs, with which there is no such step, are not looked at.
+/// puts. None if there is no such variant. It does not look at extlangs, with which a core has no such step.
 pub(crate) fn first_variant_language<L: Lookup>(table: &L, core: &Core) -> Option<(usize, Subtag)>
     ensures variant_language { MatchOption result
         (HasNoVariantLanguage (L.listed table.now) core.now)

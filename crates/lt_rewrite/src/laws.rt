@@ -21,9 +21,10 @@ pub fn one_core_normal_form()
 {}
 
 /// In a registry that meets the conditions on core steps, a core step leads from a proper core to a proper core
-/// (`proper`): one whose subtags are registered. If the registry also makes no grandfathered tag valid as a langtag
-/// (`HasFittingGrandfathered`), each step on the core or the extensions of a proper tag leads to a proper tag (`tags`).
-/// This last condition is enough for no proper core to spell a grandfathered tag (`spelled`).
+/// (`proper`). A core is proper if its subtags are registered, and its extlang, if it has one, belongs to its language.
+/// If the registry also makes no grandfathered tag valid as a langtag (`HasFittingGrandfathered`), each step on the
+/// core or the extensions of a proper tag leads to a proper tag (`tags`). This last condition is enough for no proper
+/// core to spell a grandfathered tag (`spelled`).
 pub fn steps_keep_proper()
     ensures proper { (R : List EntryParts) → IsRegistry R → MeetsCoreConditions R → StepsKeepProper R }
     ensures tags { (R : List EntryParts) → IsRegistry R → MeetsCoreConditions R → All (HasFittingGrandfathered R) R → StepsKeepTagsProper R }

@@ -1,7 +1,7 @@
 //! Shortcuts along the chains of values of a table's records (RFC 5646, 3.1.7): for each record the index of a record
-//! further on in its chain, whose value is the end of the chain. The shortcuts are made twice as long in each of at
-//! most as many rounds as the number of records has binary digits, so that a cycle is found as fast as an end, however
-//! long the chains are.
+//! further on in its chain, whose value is the end of the chain. Each round makes them twice as long, and there are at
+//! most as many rounds as the number of records has binary digits. So a cycle is found as fast as an end, however long
+//! the chains are.
 ghost use Rattle.std.specs.Prelude.{◌≡◌, ◌+◌, ◌≤◌, ◌<◌, ◌||◌, true, false, Some, ℕ, List, All, IfOk, OnErr, Contains, length, map, IsTrue, ◌↔◌};
 ghost use Rattle.std.specs.List.{slice_get, AllByRecursion, AllWithin};
 ghost use Rattle.std.specs.List.Sorted.{IsNonDecreasingBy};
@@ -221,8 +221,8 @@ fn first_places<L: Lookup>(alloc: Global, table: &L) -> Result<Vec<usize>, Alloc
     Ok(places)
 }
 
-/// For each entry, the index of the entry to which its shortcut leads over as many values as there are entries, and so
-/// to the end of a chain that ends. Refused only where memory runs out.
+/// For each entry, the index of the entry to which its shortcut leads over at least as many values as there are
+/// entries, and so to the end of a chain that ends. Refused only where memory runs out.
 fn last_places<L: Lookup>(alloc: Global, table: &L) -> Result<Vec<usize>, AllocError>
     ensures { IfOk result (λ places. LeadOn (L.listed table.now) (length (L.listed table.now)) places.items) }
 {
