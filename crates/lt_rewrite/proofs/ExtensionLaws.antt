@@ -83,13 +83,13 @@ none_there es n h =
     recursion_from_All (λ (e : ExtensionParts). e.singleton ≢ n) es
     (λ k d l. eqb-false (get_or es k d).singleton n (fails_before_first test es k d (omega arith)))
 
--- if no extension has the singleton `n`, `Settles` holds of None
+-- if no extension has the singleton `n`, there is none with it to settle (`Settles` of None)
 pub none_rest : (R : List EntryParts) (es : List ExtensionParts) (n : ℕ)
     → AllByRecursion (λ (e : ExtensionParts). e.singleton ≢ n) es → Settles R n es None
 none_rest R es n = AllByRecursion-weaker (λ (x : ExtensionParts). x.singleton ≢ n) (λ x. x.singleton ≡ n
     → Rests (ExtensionStep R) x) (λ x a q. absurd (a q)) es
 
--- if no extension with the singleton `n` is found, `Settles` holds of None
+-- if no extension with the singleton `n` is found, there is none with it to settle (`Settles` of None)
 pub none_settles : (R : List EntryParts) (es : List ExtensionParts) (n : ℕ)
     → position (λ (e : ExtensionParts). e.singleton == n) es ≡ None → Settles R n es None
 none_settles R es n h = none_rest R es n (none_there es n h)
@@ -143,8 +143,8 @@ placed_alone P n (x ∷ xs) (suc i) e f d h is s p =
     (all_unmapped (λ (m : ℕ). m ≢ x.singleton) singleton_of xs d.0) in
     (λ q. absurd (other (s ∙ sym q)), placed_alone P n xs i e f d.1 (omega arith) is s p)
 
--- if each singleton occurs once, and no step leads from the extension with the singleton `n` that is found, `Settles`
--- holds of None
+-- if each singleton occurs once, and no step leads from the extension with the singleton `n` that is found, there is
+-- none with it to settle (`Settles` of None)
 pub found_rests : (R : List EntryParts) (n : ℕ) (es : List ExtensionParts) (place : ℕ) (e : ExtensionParts)
     → Distinct (map singleton_of es) → position (λ (e : ExtensionParts). e.singleton == n) es ≡ Some place
     → e ≡ get_or es place e

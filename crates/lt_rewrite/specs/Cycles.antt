@@ -14,8 +14,8 @@ pub record IsFirstCycle (R : List EntryParts) (number : ℕ) : Type 0 where
   pub endless : HasEndingChain R entry → ⊥
   pub lower : All (λ f. f.number < number → HasEndingChain R f) R
 
--- The place that an order gives to the record with this number: in File the number itself; in Mixed the number times
--- 2654435769, which is 2^32 over the golden ratio, modulo 2^32, so that places have nothing to do with the file's order.
+-- The place that an order gives to the record with this number. In File it is the number itself. In Mixed it is the
+-- number times 2654435769, which is 2^32 over the golden ratio, modulo 2^32, and has nothing to do with the file.
 unfoldable pub place : Order → ℕ → ℕ
 place orders.File number = number
 place orders.Mixed number = number * 2654435769 % 2 ^ 32

@@ -1,6 +1,6 @@
-//! One step on extensions (RFC 5646, 4.5; RFC 6067; RFC 6497). The clauses `Changes` and `Answers` say that a call gives
-//! what the step leads to, and that None or false means that the step leads nowhere. A step that uses no record is the
-//! same in each registry, so its clause speaks of every list `R` of entries.
+//! One step on extensions (RFC 5646, 4.5; RFC 6067; RFC 6497). The clauses `Changes` and `Answers` say that a call
+//! gives what the step leads to, and that None or false means that the step leads nowhere. A step that uses no record
+//! is the same in each registry, so its clause speaks of every list `R` of entries.
 //!
 //! The bounds keep places within a `u32`. A tag has at most 1,050,630 subtags before its private use, and 1,100,000 is
 //! a round number above that. The place of a singleton may be at most 1,150,000, so that an extension, which has at

@@ -47,7 +47,7 @@ pub fn next_key(last: Option<Subtag>, subtag: Subtag) -> Option<Subtag>
 }
 
 /// Whether the subtags of a `u` extension are keywords with rising keys, none of which has a type `true`. Then the
-/// extension is in its normal form; if not, it may be so too.
+/// extension is in its normal form; one that fails this test may be so too.
 pub(crate) fn keys_rise(subtags: &[Subtag]) -> bool
     ensures { result ≡ rising.keys_rise None subtags.now }
 {
