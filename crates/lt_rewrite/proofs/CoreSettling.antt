@@ -29,7 +29,7 @@ pub record VariantsSettled (R : List EntryParts) (c d : CoreParts) (index end : 
   pub count : length d.variants ≡ end
   pub final : All (λ (v : List ℕ). variant_value R v ≡ None) (take index d.variants)
 
--- before any variant is settled, `VariantsSettled` holds of the core `c` and the index 0
+-- before any variant of the core `c` is settled, `VariantsSettled` holds with `c` as both cores and the index 0
 pub none_settled : (R : List EntryParts) (c : CoreParts) (n : ℕ) → n ≡ length c.variants → VariantsSettled R c c 0 n
 none_settled R c n e = record { reached = done; others = refl; count = sym e; final = λ k d h. absurd (omega (arith, h)) }
 
@@ -137,8 +137,8 @@ none_more R c i l v vs o h e its value found none =
     let P : List ℕ → Type 0 = λ u. language_beside R c.language u ≡ None in
     All-more P vs i v h none (subst P e (ap (λ l. language_beside R l v) (sym its) ∙ sym value ∙ ap option_copied found))
 
--- the core `c` is led to `c1`, `c2` and `c3` by the calls that settle its script, its region and its extlang: core
--- steps lead there, the script and the region are at the ends of their chains, and there is not exactly one extlang
+-- the calls that settle the script, the region and the extlang of the core `c` give `c1`, `c2` and `c3`: core steps
+-- lead there, the script and the region are at the ends of their chains, and in `c3` there is not exactly one extlang
 pub record Settlings (R : List EntryParts) (c c1 c2 c3 : CoreParts) : Type 0 where
   pub script : Star (CoreStep R) c c1
   pub region : Star (CoreStep R) c1 c2
@@ -149,9 +149,9 @@ pub record Settlings (R : List EntryParts) (c c1 c2 c3 : CoreParts) : Type 0 whe
   pub other_than_region : c2 ≡ record c1 { region = c2.region }
   pub other_than_extlang : c3 ≡ record c2 { language = c3.language; extlangs = c3.extlangs }
 
--- if, after the calls of `Settlings`, steps on the language and the variants lead to `d`, whose variants are at the
--- ends of their chains, and, without extlangs, the language too, with no VariantLanguage step left, then `d` is the
--- core normal form of `c`
+-- If, after the calls of `Settlings`, steps on the language and the variants lead to `d`, then `d` is the core normal
+-- form of `c`: its variants must be at the ends of their chains and, if there are no extlangs, its language too, with
+-- no VariantLanguage step left.
 pub rests_settled : (R : List EntryParts) (c c1 c2 c3 d : CoreParts) → Settlings R c c1 c2 c3 → Star (CoreStep R) c3 d
     → HasFinalVariants R d → (c3.extlangs ≡ [] → HasFinalLanguage R d × HasNoVariantLanguage R d)
     → d ≡ record c3 { language = d.language; variants = d.variants } → IsCoreNormalForm R c d

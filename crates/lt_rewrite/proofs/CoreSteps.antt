@@ -83,8 +83,8 @@ pub there_alone : (c : CoreParts) (o : Option (List ℕ)) (x : List ℕ) → c.e
     → (if eqb (length c.extlangs) 0 then o else None) ≡ Some x
 there_alone c o x none e = ap (λ xs. if eqb (length xs) 0 then o else None) none ∙ e
 
--- the variant `v` at `i` has the value `m` for a VariantLanguage step, if that is its language beside the core's, and
--- no variant before it has one
+-- the variant `v` at `i` has the value `m` for a VariantLanguage step, if `language_beside` gives `m` for it and the
+-- core's language, and None for the variants before it
 pub has_leftmost : (R : List EntryParts) (c : CoreParts) (i : ℕ) (v m : List ℕ)
     → language_beside R c.language v ≡ Some m
     → AllByRecursion (λ u. language_beside R c.language u ≡ None) (take i c.variants)

@@ -1,5 +1,6 @@
--- What the entry of a subtag and its value have: what each record has, and what the conditions C1 to C6 ask for. The
--- variant value of a variant is its preferred value if that is a variant, and the language value if that is a language.
+-- The entry of a subtag and its value have what each record has, and what the conditions C1 to C6
+-- (`MeetsCoreConditions`) ask for. The variant value of a variant is its preferred value if that is a variant, and the
+-- language value is its preferred value if that is a language.
 use Rattle.std.proofs.Common.{◌≡◌, ℕ, ◌⊎◌, inl, inr, Bool, true, false, true≢false, cond, ◌&&◌, List, [], ◌∷◌, Option}
 use Rattle.std.proofs.Common.{Some, None, refl, sym, ap, ◌∙◌, subst, All, bytes_eq, find}
 use Rattle.std.specs.List.{AllByRecursion}

@@ -1,6 +1,6 @@
 -- The normal form of an extension (`normal_extension`) and of a list of extensions (`normal_extensions`), under the
--- conditions C1 to C6, by which the source of a `t` extension has one. Steps on extensions keep their shapes, and make
--- them no longer.
+-- conditions C1 to C6 (`MeetsCoreConditions`), by which the source of a `t` extension has one. Steps on extensions keep
+-- their shapes, and make them no longer.
 use Rattle.std.proofs.Common.{◌≡◌, ℕ, ◌≤◌, Bool, true, false, cond, List, refl, sym, ap, ◌∙◌, subst, subst₂, ap₂}
 use Rattle.std.proofs.Common.{length, arith, Option, Some, None, ◌==◌}
 use Rattle.std.specs.Prelude.{map, option_map}

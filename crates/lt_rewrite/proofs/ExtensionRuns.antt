@@ -49,9 +49,9 @@ later : (step other : Step) → (kind_rank step < kind_rank other → extension_
 later step other f (inl h) = inl (f.0 h)
 later step other f (inr h) = inr (f.1 h.0, h.1)
 
--- Runs on parts of the type `F` as runs in the extension that `of` makes of them. `Is` holds of the parts, and steps
--- keep it (`keeps`). Each step on the parts is one in the extension and the other way round (`into`, `out`), and the
--- order of steps is the same (`ordered`).
+-- Runs on parts of the type `F` as runs inside the extension that `of` makes of them. `Is` holds of the parts, and
+-- steps keep it (`keeps`). Each step on the parts is one inside the extension and the other way round (`into`, `out`),
+-- and the order of steps is the same (`ordered`).
 module _ {F : Type 0} (R : List EntryParts) (k : ℕ) (Leads : F → Step → F → Type 0) (of : F → ExtensionParts) (Is : F → Type 0)
     (keeps : (p q : F) (step : Step) → Is p → Leads p step q → Is q)
     (into : (p q : F) (step : Step) → Is p → Leads p step q → ExtensionLeads R k (of p) step (of q))
@@ -212,7 +212,7 @@ module _ (R : List EntryParts) (start n most : ℕ) (own : (k : ℕ) (e : Extens
 -- The steps on extensions in three phases: exchanges, steps inside the `u` extension, and those inside the `t`
 -- extension.
 
--- the first extensions have no more subtags than all
+-- the extensions before an index have no more subtags than all extensions
 pub few_before : (i : ℕ) (es : List ExtensionParts) → length (spell_extensions (take i es)) ≤ length (spell_extensions es)
 few_before i es = front_few spell_extension es i
 
@@ -227,12 +227,12 @@ pub record IsKept (start : ℕ) (es : List ExtensionParts) : Type 0 where
   pub transforms : AllByRecursion HasForm es
   pub few : start + length (spell_extensions es) ≤ 1100000
 
--- a list without repeats stays so where two neighbours change places
+-- a list without repeats has none after two neighbours change places
 distinct_swapped : (xs : List ℕ) (m n : ℕ) (ys : List ℕ) → Distinct (xs ++ m ∷ n ∷ ys) → Distinct (xs ++ n ∷ m ∷ ys)
 distinct_swapped [] m n ys d = ((λ e. d.0.0 (sym e), d.1.0), (d.0.1, d.1.1))
 distinct_swapped (x ∷ xs) m n ys d = (all_swapped (λ y. y ≢ x) xs m n ys d.0, distinct_swapped xs m n ys d.1)
 
--- singletons that differ still do after a step on the order of the extensions
+-- if the singletons of extensions differ, they do so after a step on the order of the extensions
 distinct_step : (es fs : List ExtensionParts) → ListStep false singleton_cmp es fs → Distinct (map singleton_of es)
     → Distinct (map singleton_of fs)
 distinct_step es fs (by_swap before a b after s) d =
@@ -285,7 +285,7 @@ pub settles_of : (R : List EntryParts) (n start : ℕ) (es : List ExtensionParts
 settles_of R n start es None old new h = none_rest R es n h.0
 settles_of R n start es (Some p) old new h = h.settles
 
--- with the normal form in its place the extensions have the same singletons
+-- with the normal form, if one is given, in its place (`placed`) the extensions have the same singletons
 placed_singletons : (R : List EntryParts) (n : ℕ) (es : List ExtensionParts) (o : Option (ℕ × ExtensionParts))
     → Settles R n es o → map singleton_of es ≡ map singleton_of (placed o es)
 placed_singletons R n es None s = refl

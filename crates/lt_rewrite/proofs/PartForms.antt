@@ -1,5 +1,6 @@
--- The normal forms of the parts of a `u` extension (`u_form`) and, under the conditions C1 to C6, of a `t` extension
--- (`t_form`). Steps on the parts keep their normal form and their shapes, and make them no longer.
+-- The normal forms of the parts of a `u` extension (`u_form`) and, under the conditions C1 to C6
+-- (`MeetsCoreConditions`), of a `t` extension (`t_form`). Steps on the parts keep their normal form and their shapes,
+-- and make them no longer.
 use Rattle.std.proofs.Common.{◌≡◌, ℕ, ◌≤◌, ◌<◌, true, false, cond, List, [], ◌∷◌, ◌++◌, refl, sym, ap, ◌∙◌, subst, ap₂}
 use Rattle.std.proofs.Common.{bytes_eq, length, arith, Option, Some, None, IfSome, ◌≢◌, ◌⊎◌, inl, inr}
 use Rattle.std.specs.Prelude.{codes, flat_map, map, option_map}

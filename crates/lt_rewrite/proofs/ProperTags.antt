@@ -1,6 +1,6 @@
--- Under the conditions C1 to C6 and C8 a core step on the core of a proper tag leads to a proper tag, and so does a
--- step on its extensions (the law `StepsKeepTagsProper`). A tag is proper if it is valid, except that a variant may
--- occur twice.
+-- Under the conditions C1 to C6 (`MeetsCoreConditions`) and C8 (`HasFittingGrandfathered`) a core step on the core of a
+-- proper tag leads to a proper tag, and so does a step on its extensions (the law `StepsKeepTagsProper`). A tag is
+-- proper if it is valid, except that a variant may occur twice.
 use Rattle.std.proofs.Common.{◌≡◌, ◌≢◌, ℕ, false, ◌≤◌, inl, List, [], ◌∷◌, ◌++◌, Option, Some, sym, ap, ◌∙◌, subst, map}
 use Rattle.std.proofs.Common.{length, arith, All, IfSome}
 use Rattle.std.specs.List.{AllByRecursion}

@@ -44,7 +44,7 @@ subtag_kind_at at_region = kinds.Region
 subtag_kind_at (at_variant i) = kinds.Variant
 subtag_kind_at (at_variant_language i) = kinds.Variant
 
--- the place of a spot among the subtags of a core, counted from 1: the language is the first, and a sole extlang the
+-- the place of a spot among the subtags of a core, counted from 1: the language is the first, and an only extlang the
 -- second
 abbrev pub place_at : CoreParts → Spot → ℕ
 place_at c at_extlang = 2
