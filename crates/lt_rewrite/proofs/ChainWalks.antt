@@ -150,12 +150,12 @@ chain_ends_within R k s h =
     let end : f (chase f t.0 s) ≡ None = takes_ends f t.0 s t.2 in
     ap f (chase_past f t.0 (length R) s t.1 end) ∙ end
 
--- one value more: where `u` is `n` values on from `s`, and `t` follows `u`, `t` is `n` + 1 values on from `s`
+-- if a walk of `n` values from `s` leads to `u`, and `t` follows `u`, a walk of `n` + 1 values leads to `t`
 pub chase_more : (f : List ℕ → Option (List ℕ)) (n : ℕ) (s u t : List ℕ) → u ≡ chase f n s → f u ≡ Some t → t ≡ chase f (n + 1) s
 chase_more f n s u t e h =
     sym (ap (λ k. chase f k s) (omega arith) ∙ chase_plus f 1 n s ∙ ap (chase f 1) (sym e) ∙ chase_next f 0 u t h)
 
--- where `d` is `n` values on from `s`, and no value follows it, the chain from `s` ends in `d`
+-- if a walk of `n` values from `s` leads to `d`, and no value follows `d`, the chain from `s` ends in `d`
 pub walk_ends : (f : List ℕ → Option (List ℕ)) (n : ℕ) (s d : List ℕ) → d ≡ chase f n s → f d ≡ None → EndsIn f s d
 walk_ends f n s d e h = (n, sym e, h)
 
@@ -225,13 +225,13 @@ pub next_by : (R : List EntryParts) (k : Kind) (s : List ℕ) (o : Option EntryP
     → next_value R k s ≡ option_and_then (following k) o
 next_by R k s o e = next_follows R k s ∙ ap (option_and_then (following k)) (sym e)
 
--- `e` is a record of the kind `k` with the value `v`, and `s` is `n` values on from `v`
+-- `e` is a record of the kind `k` with the value `v`, and a walk of `n` values from `v` leads to `s`
 pub record IsWalk (R : List EntryParts) (e : EntryParts) (k : Kind) (v s : List ℕ) (n : ℕ) : Type 0 where
   pub of_kind : k ≡ e.kind
   pub from : one_of e.value ≡ Some v
   pub walked : s ≡ chase (next_value R k) n v
 
--- if the chain ends from where the walk has come to, the record's chain ends
+-- if the chain from `s`, to which the walk has come, ends, the record's chain ends
 chain_from : (R : List EntryParts) (e : EntryParts) (k : Kind) (v s : List ℕ) (n : ℕ) → IsWalk R e k v s n
     → Ends (next_value R k) s → HasEndingChain R e
 chain_from R e k v s n W ends w h =

@@ -394,7 +394,7 @@ module _ (R : List EntryParts) (start : ℕ) (es : List ExtensionParts) (step : 
       let s : ExtensionLeads R (start + length (spell_extensions (take i es)) + 1) e step f = l f in
       (inside (take i es) e f (drop (suc i) es) (round es i e h (get_or_default es i f e h)) (set_split es i f h) s.0, s.1)
 
-  -- a step of another kind than SwapExtensions that leads on in no extension leads on nowhere
+  -- a step of another kind than SwapExtensions that leads on inside no extension leads nowhere
   pub none_inside : step.kind ≢ steps.SwapExtensions
       → ((i : ℕ) (f : ExtensionParts) → i < length es → LeadsAt R start es step i f → ⊥) → (fs : List ExtensionParts)
       → ExtensionsLeads R start es step fs → ⊥

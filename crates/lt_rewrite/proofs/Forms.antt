@@ -1,6 +1,6 @@
--- What the forms of entries (`IsRegistry`) and the conditions C1 to C6 (`MeetsCoreConditions`) say of values: each value
--- has the form of its kind, and values and the replacements of extlangs are registered. So a core step keeps the form
--- of a core.
+-- What the forms of entries (`IsRegistry`) and the conditions C1 to C6 (`MeetsCoreConditions`) say of values: each
+-- value has the form of its kind, and values and the replacements of extlangs are registered. So a core step keeps the
+-- form of a core.
 use Rattle.std.proofs.Common.{◌≡◌, ℕ, ◌⊎◌, inl, inr, true, false, ◌&&◌, List, Option, Some, None, refl, sym, ap, ◌∙◌}
 use Rattle.std.proofs.Common.{subst, length, arith, IfSome, Bor}
 use Rattle.std.specs.Prelude.{nat_le, is_some, unwrap_or}
