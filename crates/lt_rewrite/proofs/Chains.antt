@@ -1,10 +1,11 @@
 -- Chains of values, where `f` gives the value of each subtag: a walk along a chain (`chase`) stays at the end of the
--- chain, and a chain has only one end. What each value passes on, the end of a chain has if the start has it.
+-- chain, and a chain has only one end. If each subtag passes a property on to its value, the end of a chain has the
+-- property if the start has it.
 use Rattle.std.proofs.Common.{◌≡◌, ℕ, zero, suc, ◌≤◌, ◌+◌, ◌-◌, inl, inr, List, Option, Some, None, refl, sym, ap, ◌∙◌, subst, arith}
 use Rattle.std.proofs.lemmas.Bool.{cases_lt}
 use Rattle.lt_rewrite.specs.CoreSteps.{chase, Ends, EndsIn}
 
--- where no value follows `s`, a walk from `s` stays there
+-- if no value follows `s`, a walk from `s` stays there
 pub chase_rests : (f : List ℕ → Option (List ℕ)) (n : ℕ) (s : List ℕ) → f s ≡ None → chase f n s ≡ s
 chase_rests f zero s h = refl
 chase_rests f (suc n) s h = rw (h, chase)

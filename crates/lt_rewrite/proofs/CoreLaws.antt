@@ -230,8 +230,8 @@ three_at_most (l ∷ s ∷ []) = is_script s || is_region s
 three_at_most (l ∷ s ∷ r ∷ []) = is_script s && is_region r
 three_at_most s = false
 
--- a test that the subtags of each grandfathered tag pass: none occurs twice, and they are not just a language and
--- perhaps a script or a region
+-- a test that the subtags of each grandfathered tag pass: none occurs twice, and there is more than a language, perhaps
+-- a script and perhaps a region
 of_grandfathered : List (List ℕ) → Bool
 of_grandfathered list = distinct_test list && not (three_at_most list)
 
@@ -240,8 +240,8 @@ tests_hold : list_all (λ (t : List ℕ). of_grandfathered (pieces t)) grandfath
 unfolding of_grandfathered distinct_test three_at_most grandfathered_texts is_script is_region
 tests_hold = refl
 
--- none of the subtags of a grandfathered tag occurs twice, and they are not just a language and perhaps a script or a
--- region
+-- none of the subtags of a grandfathered tag occurs twice, and there is more than a language, perhaps a script and
+-- perhaps a region
 grandfathered_is : (list : List (List ℕ)) (number : ℕ) → IsGrandfathered list number → Distinct list × (three_at_most list ≡ false)
 unfolding of_grandfathered grandfathered_list
 grandfathered_is list number g =

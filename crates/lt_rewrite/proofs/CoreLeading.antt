@@ -133,7 +133,7 @@ module _ (R : List EntryParts) (start : ℕ) (c : CoreParts) (step : Step) where
     pub has : value_at R c spot subtag ≡ Some value
     pub number : number_of (entry R (subtag_kind_at spot) subtag) ≡ step.number
 
-  -- a step that leads on has at its spot what `Needs` tells
+  -- `Needs` holds of the spot of a step that leads on
   pub needs : (d : CoreParts) → (l : CoreLeads R start c step d) → Needs l.0.spot
   needs d l = record { subtag = l.0.subtag; there = l.0.there; value = l.0.value; has = l.0.has; number = ap (λ (x : Step). x.number) l.1 }
 
@@ -337,8 +337,8 @@ module _ (R : List EntryParts) (start : ℕ) (c : CoreParts) where
   last none (Some step) h = first_after 5 step none h
   last none None h = none_leads (none, h)
 
--- if the first step on the core `c` is applied, with the answer `done` and the core `d` after the call, it is the first
--- step and leads to `d`
+-- if the first step on the core `c` is applied by a call that answers `done`, and after which the core is `d`, it leads
+-- to `d`, as the first step
 pub applied : (R : List EntryParts) (start : ℕ) (c d : CoreParts) (step : Step) (done : Bool)
     → IsFirstOnCore R start c step → Answers (CoreLeads R start c step) d done
     → IsFirst (CoreLeads R start c) kind_rank step d

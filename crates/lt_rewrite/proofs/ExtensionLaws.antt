@@ -1,5 +1,5 @@
--- The laws of the steps on extensions (`ordering_laws`): each list of extensions, and the parts of a `u` or a `t`
--- extension, have exactly one normal form. And lemmas for `settle_u` and `settle_extensions`: what they make is it.
+-- The laws of the steps on extensions (`ordering_laws`): a list of extensions has exactly one normal form, and so do
+-- the parts of a `u` or a `t` extension. And lemmas for `settle_u` and `settle_extensions`, which make that form.
 use Rattle.std.proofs.Common.{◌≡◌, ℕ, ◌≤◌, ◌<◌, Bool, true, false, cond, List, [], ◌∷◌, ◌++◌, refl, sym, ap, ◌∙◌, subst}
 use Rattle.std.proofs.Common.{subst₂, ap₂, length, arith, Option, Some, None, IfSome, ◌==◌, ◌≢◌, ltb, zero, suc, get_or}
 use Rattle.std.proofs.Common.{set, take, drop}

@@ -27,7 +27,7 @@ use Rattle.lt_tag.proofs.PartsLaws.{t_unique as one_transform}
 use Rattle.lt_tag.specs.Lists.{longest_text}
 pub use Rattle.lt_rewrite.proofs.CoreLaws.{step_proper, proper_not_grandfathered, proper_spells_none}
 
--- the core `c`, the extensions `es` and the private use subtags `ps` are those of a proper langtag: the types hold
+-- the core `c`, the extensions `es` and the private use subtags `ps` may be those of a proper langtag: a Tag can hold
 -- them, the core and each extension are proper, and no singleton occurs twice
 pub record ProperParts (R : List EntryParts) (c : CoreParts) (es : List ExtensionParts) (ps : List (List ℕ)) : Type 0 where
   pub core : IsProperValue R c

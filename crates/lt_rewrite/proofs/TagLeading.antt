@@ -311,7 +311,7 @@ module _ (R : List EntryParts) (t : TagForm) (step : Step) where
     pub not_proper : (v : TagForm) → TagLeads R t step v → (IsProper R v → ⊥) → (u : TagForm) → LeadsBy R t step u → ⊥
     not_proper v l n u m = n (subst (IsProper R) (same_end u v (m.0.change, m.1) l) m.0.to)
 
-    -- if the step leads to `v`, and `o` is `v`, or None since the type Tag cannot hold `v`, then `o` is the right answer
+    -- if the step leads to `v`, and `o` is `v`, or None since no Tag can be `v`, then `o` is the right answer
     pub made : (v : TagForm) (o : Option TagForm) → TagLeads R t step v → MatchOption o (IsTagValue v → ⊥) (λ u. u ≡ v)
         → MatchOption o ((u : TagForm) → IsTagValue u → TagLeads R t step u → ⊥) (TagLeads R t step)
     made v None l h = λ u V m. valueless v l h u V m
