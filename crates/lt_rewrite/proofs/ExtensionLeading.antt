@@ -234,8 +234,8 @@ module _ (start : ℕ) (p : UForm) (step : Step) (q : UForm) where
   pub as_kind : (k : UnicodeKind) → kind_rank step ≡ u_rank k → UnicodeLeads start p step q → Says k start p step q
   as_kind k r l = let s = said l in subst (λ j. Says j start p step q) (same_kind s.0 k (sym (in_u s.0 s.1).0 ∙ r)) s.1
 
--- an answer `r` about `L` and `x` is one about `M` and `y`, if `M` holds of `y` whenever `L` holds of `x`, and `L` holds
--- of some value whenever `M` does
+-- an answer `r` about `L` and `x` is one about `M` and `y`, if `M` holds of `y` whenever `L` holds of `x`, and `L`
+-- holds of some value whenever `M` does
 pub answers_by : {A B : Type 0} (L : A → Type 0) (M : B → Type 0) (x : A) (y : B) → (L x → M y)
     → ((z : B) → M z → (w : A) × L w) → (r : Bool) → Answers L x r → Answers M y r
 answers_by L M x y forth back true h = forth h

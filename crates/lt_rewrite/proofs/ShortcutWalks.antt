@@ -98,7 +98,7 @@ pub record PartDoubled (R : List EntryParts) (n index : ℕ) (places : List ℕ)
   pub all : LeadOn R n places
   pub doubled : (i j : ℕ) → i < index → slice_get places i ≡ Some j → IsShortcut R (n + n) i j
 
--- past the last place all shortcuts are twice as long
+-- once `index` is past the last place, all shortcuts are twice as long
 pub all_doubled : (R : List EntryParts) (n index : ℕ) (places : List ℕ) → index ≡ length places
     → PartDoubled R n index places → LeadOn R (n + n) places
 all_doubled R n index places is h =

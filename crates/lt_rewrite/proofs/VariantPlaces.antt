@@ -9,7 +9,7 @@ use Rattle.lt_registry.specs.Entries.{entry}
 use Rattle.lt_registry.specs.declared.entries.Kind.TheVariants as kinds
 use Rattle.lt_rewrite.specs.VariantLanguages.{ArePlaces}
 
--- the entry of the variant `v` at `i` is at the place that is at `i`
+-- the place at the index `i` is that of the entry of the variant `v` at `i`
 pub placed_at : (R : List EntryParts) (vs : List (List ℕ)) (ps : List ℕ) (i : ℕ) (v : List ℕ) → ArePlaces R vs ps
     → i < length vs → v ≡ get_or vs i v → slice_get R (get_or ps i 0) ≡ entry R kinds.Variant v
 placed_at R vs ps i v h l e =
