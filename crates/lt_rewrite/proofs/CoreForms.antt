@@ -1,7 +1,7 @@
 -- Under the conditions C1 to C6 (`MeetsCoreConditions`) each core has exactly one core normal form (the law
--- `one_core_normal_form`), which `normal_core` gives: each subtag is at the end of its chain of values, and no
--- VariantLanguage step is left. The language value of a variant is its preferred value, if that is a language. A
--- variant has a VariantLanguage step beside a language that is one of its Prefixes: its language value replaces that.
+-- `one_core_normal_form`), which `normal_core` gives: each subtag that a step may replace is at the end of its chain of
+-- values, and no VariantLanguage step is left. The language value of a variant is its preferred value, if that is a
+-- language. It has a VariantLanguage step beside a language that is one of its Prefixes, which this value replaces.
 use Rattle.std.proofs.Common.{◌≡◌, ℕ, zero, suc, Bool, true, false, List, [], ◌∷◌, ◌++◌, Option, Some, None, refl, sym}
 use Rattle.std.proofs.Common.{ap, ◌∙◌, subst, length, arith, map, cond, not, is_some, filter, get_or, inl, inr}
 use Rattle.std.specs.List.{AllByRecursion}
