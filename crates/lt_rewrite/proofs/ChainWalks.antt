@@ -1,6 +1,6 @@
--- A walk along a chain of values, value by value. After as many values as there are records it has ended or never will,
--- since a chain that ends uses no record twice. It may also stop at a record that is before its own in an order, since
--- the chain of that one is judged too (`first_cycle`).
+-- Lemmas for `chain_end` and `first_cycle`, which walk along a chain of values, value by value. A chain that ends does
+-- so within as many values as there are records, since it uses no record twice. The walk of `first_cycle` may also stop
+-- at a record that is before its own in an order, since the chain of that record is followed too.
 use Rattle.std.proofs.Common.{◌≡◌, ◌≢◌, ℕ, zero, suc, ◌≤◌, ◌<◌, inl, inr, Bool, true, false, cond, eqb, List, [], ◌∷◌}
 use Rattle.std.proofs.Common.{Option, Some, None, refl, sym, ap, ◌∙◌, subst, length, slice_get, arith, ◌+◌, Result}
 use Rattle.std.proofs.Common.{IfOk, OnErr, not, get_or, All, MatchBool, Bor, is_some, Contains}
@@ -31,11 +31,11 @@ use Rattle.lt_rewrite.specs.declared.cycles.Order.TheVariants as orders
 pub entry_there : (R : List EntryParts) (k : Kind) (s : List ℕ) (e : EntryParts) → entry R k s ≡ Some e → Contains R e
 entry_there R k s e h = (entry_has R k s (Contains R) (All-contains_itself R) e h).0
 
--- `Some` on entries, as a function
+-- `Some` of entries as a function, which lemmas can be given
 abbrev pub some : EntryParts → Option EntryParts
 some e = Some e
 
--- a record of `R`, at the place `at`, whose preferred value is the subtag `v`
+-- the record `entry` of `R`, at the index `at`, has the subtag `v` as its preferred value
 record Rule (R : List EntryParts) (v : List ℕ) : Type 0 where
   at : ℕ
   entry : EntryParts
@@ -49,7 +49,7 @@ rule R k s v e =
     let c = entry_there R k s en.at en.found in
     record { at = c.0; entry = en.at; there = slice_get-get_or R c.0 en.at c.1 ∙ ap some c.2; gives = en.gives }
 
--- two values that the record at one place gives are equal
+-- two values that the record at one index gives are equal
 one_value : (R : List EntryParts) (v w : List ℕ) (a : Rule R v) (b : Rule R w) → a.at ≡ b.at → v ≡ w
 one_value R v w a b e =
     let same : a.entry ≡ b.entry = same_Some a.entry b.entry (sym a.there ∙ ap (slice_get R) e ∙ b.there) in
@@ -60,7 +60,7 @@ abbrev pub Takes : (List ℕ → Option (List ℕ)) → ℕ → List ℕ → Typ
 Takes f zero s = f s ≡ None
 Takes f (suc n) s = (t : List ℕ) × (f s ≡ Some t) × Takes f n t
 
--- the number of values that follow is unique
+-- the number of values that follow `s` on its chain is unique
 pub takes_unique : (f : List ℕ → Option (List ℕ)) (n m : ℕ) (s : List ℕ) → Takes f n s → Takes f m s → n ≡ m
 takes_unique f zero zero s a b = refl
 takes_unique f zero (suc m) s a b = let c = b.1 in cc
@@ -69,13 +69,13 @@ takes_unique f (suc n) (suc m) s a b =
     let same : a.0 ≡ b.0 = let x = a.1 in let y = b.1 in cc in
     ap suc (takes_unique f n m b.0 (subst (Takes f n) same a.2) b.2)
 
--- a chain with an end takes some number of values
+-- on a chain that has ended after `n` values, exactly some number `m` of values follow `s`
 takes : (f : List ℕ → Option (List ℕ)) (n : ℕ) (s : List ℕ) → f (chase f n s) ≡ None → (m : ℕ) × Takes f m s
 takes f zero s h = (0, h)
 takes f (suc n) s h =
     by_next (f s) (λ e. (0, e)) (λ t e. let r = takes f n t (ap f (sym (chase_next f n s t e)) ∙ h) in (suc r.0, (t, e, r.1)))
 
--- after all its values a chain has ended
+-- if exactly `n` values follow `s`, the chain has ended after `n` values
 takes_ends : (f : List ℕ → Option (List ℕ)) (n : ℕ) (s : List ℕ) → Takes f n s → f (chase f n s) ≡ None
 takes_ends f zero s a = a
 takes_ends f (suc n) s a = ap f (chase_next f n s a.0 a.1) ∙ takes_ends f n a.0 a.2
@@ -85,21 +85,21 @@ module _ (R : List EntryParts) (k : Kind) where
   abbrev pub next : List ℕ → Option (List ℕ)
   next = next_value R k
 
-  -- the place of the record that gives the value after `s`
+  -- the index of the record that gives the value `t` after `s`
   abbrev key : (s t : List ℕ) → next s ≡ Some t → ℕ
   key s t e = (rule R k s t e).at
 
-  -- the places of the records that give the `n` values after `s`
+  -- the indices of the records that give the `n` values after `s`
   abbrev keys : (n : ℕ) (s : List ℕ) → Takes next n s → List ℕ
   keys zero s a = []
   keys (suc n) s a = key s a.0 a.1 ∷ keys n a.0 a.2
 
-  -- `keys` has one place for each value of a chain
+  -- `keys` has one index for each of the `n` values after `s`
   keys_length : (n : ℕ) (s : List ℕ) (a : Takes next n s) → length (keys n s a) ≡ n
   keys_length zero s a = refl
   keys_length (suc n) s a = ap suc (keys_length n a.0 a.2)
 
-  -- each place in `keys` is one in the registry
+  -- each index in `keys` is one in the registry
   keys_below : (n : ℕ) (s : List ℕ) (a : Takes next n s) (q : ℕ) → list_any (eqb q) (keys n s a) ≡ true → q < length R
   keys_below zero s a q h = cc
   keys_below (suc n) s a q h =
@@ -109,7 +109,8 @@ module _ (R : List EntryParts) (k : Kind) where
         | inr e ↦ keys_below n a.0 a.2 q e
       ]
 
-  -- the record that gives the first of `n` + 1 values gives none of a chain that takes at most `n`
+  -- the record that gives the first of the `n` + 1 values after `s` gives none of the values after `t`, if at most `n`
+  -- values follow `t`
   keys_differ : (n : ℕ) (s : List ℕ) (a : Takes next (suc n) s) (m : ℕ) (t : List ℕ) (b : Takes next m t) → m ≤ n
       → AllByRecursion (λ y. eqb (key s a.0 a.1) y ≡ false) (keys m t b)
   keys_differ n s a zero t b h = tt
@@ -120,13 +121,13 @@ module _ (R : List EntryParts) (k : Kind) where
       omega arith in
       (ne_eqb (key s a.0 a.1) (key t b.0 b.1) ne, keys_differ n s a m b.0 b.2 (omega arith))
 
-  -- no record gives two values of a chain that ends
+  -- no record gives two of the `n` values after `s`, if exactly `n` values follow `s`
   keys_distinct : (n : ℕ) (s : List ℕ) (a : Takes next n s) → IsDistinct eqb (keys n s a)
   unfolding IsDistinct
   keys_distinct zero s a = tt
   keys_distinct (suc n) s a = (keys_differ n s a n a.0 a.2 (omega arith), keys_distinct n a.0 a.2)
 
-  -- a chain of values that ends takes at most as many as there are records
+  -- if the chain from `s` ends, exactly some number of values follow `s`, at most as many as there are records
   pub takes_within : (s : List ℕ) → Ends next s → (n : ℕ) × (n ≤ length R) × Takes next n s
   takes_within s h =
       let r = takes next h.0 s h.1 in (
@@ -149,12 +150,12 @@ chain_ends_within R k s h =
     let end : f (chase f t.0 s) ≡ None = takes_ends f t.0 s t.2 in
     ap f (chase_past f t.0 (length R) s t.1 end) ∙ end
 
--- one value more: where `u` is `n` values on from `s`, and `t` follows `u`, `t` is `n` + 1 values on from `s`
+-- if a walk of `n` values from `s` leads to `u`, and `t` follows `u`, a walk of `n` + 1 values leads to `t`
 pub chase_more : (f : List ℕ → Option (List ℕ)) (n : ℕ) (s u t : List ℕ) → u ≡ chase f n s → f u ≡ Some t → t ≡ chase f (n + 1) s
 chase_more f n s u t e h =
     sym (ap (λ k. chase f k s) (omega arith) ∙ chase_plus f 1 n s ∙ ap (chase f 1) (sym e) ∙ chase_next f 0 u t h)
 
--- where `d` is `n` values on from `s`, and no value follows it, the chain from `s` ends in `d`
+-- if a walk of `n` values from `s` leads to `d`, and no value follows `d`, the chain from `s` ends in `d`
 pub walk_ends : (f : List ℕ → Option (List ℕ)) (n : ℕ) (s d : List ℕ) → d ≡ chase f n s → f d ≡ None → EndsIn f s d
 walk_ends f n s d e h = (n, sym e, h)
 
@@ -183,27 +184,28 @@ pub end_form : (R : List EntryParts) → IsRegistry R → (k : Kind) (s d : List
     → has_form k s ≡ true → has_form k d ≡ true
 end_form R G k s d e h = walk_form R G k e.0 s d e.1 h
 
--- except for an extlang, whose chain begins at its replacement, an end of the kind's own chain is the one that
--- `ChainEndsIn` asks for
+-- unless the kind is Extlang, a result `r` that is the end of the kind's own chain is the end that `ChainEndsIn` asks
+-- for
 pub own_end : (R : List EntryParts) (k : Kind) (s : List ℕ) → (k ≡ kinds.Extlang → ⊥) → (r : Result (List ℕ) Cycle)
     → IfOk r (EndsIn (next_value R k) s) → IfOk r (ChainEndsIn R k s)
 own_end R kinds.Extlang s n r h = absurd (n refl)
 own_end t u s n r h = h
 
--- except for an extlang, where the kind's own chain has no end, it has none as `ChainEnds` asks for it
+-- unless the kind is Extlang, a result `r` that refuses the kind's own chain since it has no end is right by
+-- `ChainEnds`
 pub own_cycle : (R : List EntryParts) (k : Kind) (s : List ℕ) → (k ≡ kinds.Extlang → ⊥) → (r : Result (List ℕ) Cycle)
     → OnErr r (Ends (next_value R k) s → ⊥) → OnErr r (ChainEnds R k s → ⊥)
 own_cycle R kinds.Extlang s n r h = absurd (n refl)
 own_cycle t u s n r h = h
 
--- A walk from a record's value to the end of the chain or to a record before it in an order.
+-- A walk from a record's value to the end of its chain, or to a record that is before the first one in an order.
 
--- of a kind without chains no value follows, whether there is an entry `o` or not
+-- in a kind without chains no value follows, whether there is an entry `o` or not
 nothing_follows : (o : Option EntryParts) → None ≡ option_and_then {U = List ℕ} (λ (e : EntryParts). None) o
 nothing_follows None = refl
 nothing_follows (Some e) = refl
 
--- what follows by the entry `o` of a variant is its value, if that is not short
+-- the value that follows a variant with the entry `o` is the entry's value, if that is not short
 variant_follows : (o : Option EntryParts)
     → option_and_then (λ w. cond (is_short w) None (Some w)) (option_and_then (λ (e : EntryParts). one_of e.value) o)
     ≡ option_and_then (following kinds.Variant) o
@@ -223,13 +225,13 @@ pub next_by : (R : List EntryParts) (k : Kind) (s : List ℕ) (o : Option EntryP
     → next_value R k s ≡ option_and_then (following k) o
 next_by R k s o e = next_follows R k s ∙ ap (option_and_then (following k)) (sym e)
 
--- `e` is a record of the kind `k` with the value `v`, and `s` is `n` values on from `v`
+-- `e` is a record of the kind `k` with the value `v`, and a walk of `n` values from `v` leads to `s`
 pub record IsWalk (R : List EntryParts) (e : EntryParts) (k : Kind) (v s : List ℕ) (n : ℕ) : Type 0 where
   pub of_kind : k ≡ e.kind
   pub from : one_of e.value ≡ Some v
   pub walked : s ≡ chase (next_value R k) n v
 
--- if the chain ends from where the walk has come to, the record's chain ends
+-- if the chain from `s`, to which the walk has come, ends, the record's chain ends
 chain_from : (R : List EntryParts) (e : EntryParts) (k : Kind) (v s : List ℕ) (n : ℕ) → IsWalk R e k v s n
     → Ends (next_value R k) s → HasEndingChain R e
 chain_from R e k v s n W ends w h =
@@ -257,7 +259,8 @@ ends_after R order e met k v s n W found below earlier =
     ∙ next_is_value R k s t g in
     subst (λ (d : Kind). Ends (next_value R d) t) each.1.of_kind (each.0 below t gives)))
 
--- after as many values as there are records the record's chain ends if no value follows (`none`), and else has no end
+-- after as many values as there are records, the record's chain ends if no value `next` follows (`none` is true), and
+-- else has no end
 pub at_limit : (R : List EntryParts) (order : Order) (e : EntryParts) (k : Kind) (v s : List ℕ) (n : ℕ)
     → IsWalk R e k v s n → n ≡ length R → (next : Option (Bor (List ℕ))) → option_copied next ≡ next_value R k s
     → (none : Bool) → is_some next ≡ not none → MatchBool none (EndsAfterEarlier R order e) (HasEndingChain R e → ⊥)
@@ -267,16 +270,18 @@ at_limit R order e k v s n W all (Some t) h false i =
     (subst (λ (d : Kind). Ends (next_value R d) v) (sym W.of_kind) (ends v W.from))
 at_limit t order e k v s n u all w h x i = cc
 
--- where each record's chain ends if those of the records before it do, the chains of all records before a place `n` end
+-- if each record's chain ends when those of the records before it in an order do, the chains of all records before any
+-- place `n` end
 earlier_end : (R : List EntryParts) (order : Order) → All (EndsAfterEarlier R order) R → (n : ℕ) → EarlierEnd R order n
 earlier_end R order h zero = λ k d i below. absurd (omega (arith, below))
 earlier_end R order h (suc n) = λ k d i below. h k d i (λ j c l less. earlier_end R order h n j c l (omega (arith, below, less)))
 
--- where each record's chain ends if those of the records before it in an order do, every record's chain ends
+-- if each record's chain ends when those of the records before it in an order do, every record's chain ends
 pub all_end_in_order : (R : List EntryParts) (order : Order) → All (EndsAfterEarlier R order) R → All (HasEndingChain R) R
 all_end_in_order R order h = λ k d i. h k d i (earlier_end R order h (place order (get_or R k d).number))
 
--- in the order of the file the records before `e` are those of lower numbers
+-- if the chains of all records with lower numbers than `e` end, those of all records before `e` in the order of the
+-- file do
 pub file_order : (R : List EntryParts) (e : EntryParts)
     → All (λ (f : EntryParts). f.number < e.number → HasEndingChain R f) R
     → EarlierEnd R orders.File (place orders.File e.number)

@@ -1,4 +1,7 @@
--- The core normal form: each subtag at the end of its chain, and VariantLanguage steps taken.
+-- Under the conditions C1 to C6 (`MeetsCoreConditions`) each core has exactly one core normal form (the law
+-- `one_core_normal_form`), which `normal_core` gives: each subtag that a step may replace is at the end of its chain of
+-- values, and no VariantLanguage step is left. The language value of a variant is its preferred value, if that is a
+-- language. It has a VariantLanguage step beside a language that is one of its Prefixes, which this value replaces.
 use Rattle.std.proofs.Common.{◌≡◌, ℕ, zero, suc, Bool, true, false, List, [], ◌∷◌, ◌++◌, Option, Some, None, refl, sym}
 use Rattle.std.proofs.Common.{ap, ◌∙◌, subst, length, arith, map, cond, not, is_some, filter, get_or, inl, inr}
 use Rattle.std.specs.List.{AllByRecursion}
@@ -48,13 +51,14 @@ record AtEnds (R : List EntryParts) (sc re : Option (List ℕ)) : Type 0 where
   script : (s : List ℕ) → sc ≡ Some s → preferred_value R kinds.Script s ≡ None
   region : (s : List ℕ) → re ≡ Some s → preferred_value R kinds.Region s ≡ None
 
--- steps lead from one core to the other, which is at rest, and keep each variant that has no language value
+-- steps lead from the core `c` to `d`, which is at rest, so that none leads from it, and keep each variant that has no
+-- language value
 record Led (R : List EntryParts) (c d : CoreParts) : Type 0 where
   reached : Star (CoreStep R) c d
   rest : AtRest R d
   kept : filter (staying R) d.variants ≡ filter (staying R) c.variants
 
--- where `g` gives the ends of chains, no value follows what it makes of an optional subtag
+-- if `g` gives the ends of chains, no value follows the subtag `s` that it makes of an optional subtag
 end_of_some : (f : List ℕ → Option (List ℕ)) (g : List ℕ → List ℕ) → IsEnd f g → (o : Option (List ℕ)) (s : List ℕ)
     → option_map g o ≡ Some s → f s ≡ None
 end_of_some f g E None s e = cc
@@ -74,15 +78,15 @@ module _ (R : List EntryParts) (C : MeetsCoreConditions R) where
   abbrev Final : List ℕ → Type 0
   Final v = variant_value R v ≡ None
 
-  -- the language and the variants after the leftmost VariantLanguage step beside `x`, as `go` takes them further; `x`
-  -- and `vs` themselves if no variant has such a step
+  -- what `go` makes of the language and the variants to which the leftmost VariantLanguage step beside `x` leads, with
+  -- the new language at the end of its chain; `x` and `vs` themselves if no variant has such a step
   abbrev taken : (List ℕ → List (List ℕ) → List ℕ × List (List ℕ)) → (x : List ℕ) (vs : List (List ℕ))
       → Pick (language_beside R x) vs → List ℕ × List (List ℕ)
   taken go x vs (inl p) = go (last kinds.Language p.value) (p.before ++ p.after)
   taken go x vs (inr none) = (x, vs)
 
-  -- the language and the variants after at most `n` VariantLanguage steps from a language `x` without a value and
-  -- variants `vs`, where each new language is led to the end of its chain
+  -- the language and the variants to which at most `n` VariantLanguage steps lead from a language `x` without a value
+  -- and the variants `vs`, each new language being led to the end of its chain
   abbrev settled : ℕ → List ℕ → List (List ℕ) → List ℕ × List (List ℕ)
   settled zero x vs = (x, vs)
   settled (suc n) x vs = taken (settled n) x vs (pick (language_beside R x) vs)
@@ -103,13 +107,13 @@ module _ (R : List EntryParts) (C : MeetsCoreConditions R) where
   none_beside : (l v : List ℕ) → language_value R v ≡ None → language_beside R l v ≡ None
   none_beside l v e = cond_both (has_prefix (prefixes R kinds.Variant v) l) (language_value R v) None (λ x. x ≡ None) (λ _. e) (λ _. refl)
 
-  -- a variant and the end of its chain have the same VariantLanguage step beside a language `l`
+  -- a variant and the end of its chain have the same VariantLanguage step with a language `l`, or both none
   variant_language_last : (l v : List ℕ) → language_beside R l (last kinds.Variant v) ≡ language_beside R l v
   variant_language_last l v =
       end_keeps (at_last kinds.Variant) (λ s. language_beside R l s ≡ language_beside R l v)
       (λ s t h p. let n = no_language R C s t h in none_beside l t n.1 ∙ sym (none_beside l s n.0) ∙ p) v refl
 
-  -- where some variant has a VariantLanguage step, the leftmost one, `q`, is taken first
+  -- if some variant has a VariantLanguage step, that of the leftmost one, `q`, is taken first
   settled_some : (n : ℕ) (x : List ℕ) (vs : List (List ℕ)) (q : Picked (language_beside R x) vs)
       → settled (suc n) x vs ≡ settled n (last kinds.Language q.value) (q.before ++ q.after)
   settled_some n x vs q =
@@ -124,7 +128,7 @@ module _ (R : List EntryParts) (C : MeetsCoreConditions R) where
             absurd (none-some q.value (sym (all_middle P q.before q.variant q.after (subst (AllByRecursion P) q.there none)) ∙ q.has))
       ]
 
-  -- every core step keeps the form
+  -- every core step keeps the normal form of a core
   step_keeps : (c d : CoreParts) → CoreStep R c d → normal_core c ≡ normal_core d
   unfolding normal_core
   step_keeps c =
@@ -277,7 +281,8 @@ module _ (R : List EntryParts) (C : MeetsCoreConditions R) where
         kept = refl;
       }
 
-  -- steps lead from a core, once its script, region and variants are at the ends of their chains, to its normal form
+  -- steps lead from a core whose script, region and variants were led to the ends of their chains to the normal form of
+  -- the whole core, from which none leads
   led : (c : CoreParts)
       → Led R (core c.language c.extlangs (option_map (last kinds.Script) c.script)
       (option_map (last kinds.Region) c.region) (map (last kinds.Variant) c.variants)) (normal_core c)
@@ -343,20 +348,20 @@ module _ (R : List EntryParts) (C : MeetsCoreConditions R) where
       subst (λ x. IsCoreNormalForm R d x) (sym (cores_formed.kept c d s) ∙ normal_is_form cores_formed c e n)
       (form_is_normal cores_formed d)
 
-  -- cores that `at` makes of subtags `s` and `t`, whose chains both end in `e`, have one normal form
+  -- the cores that `at` makes of two subtags `s` and `t`, whose chains both end in `e`, have the same normal form
   pub one_end_one_form : (f : List ℕ → Option (List ℕ)) (at : List ℕ → CoreParts)
       → ((s t : List ℕ) → f s ≡ Some t → CoreStep R (at s) (at t)) → (s t e : List ℕ) → EndsIn f s e → EndsIn f t e
       → normal_core (at s) ≡ normal_core (at t)
   one_end_one_form f at step s t e h k =
       star_form cores_formed (along R f at step s e h) ∙ sym (star_form cores_formed (along R f at step t e k))
 
-  -- A repeat that steps on a core without repeats can reach is in the core normal form too.
+  -- If steps from a core that repeats no variant can reach a core that repeats one, the core normal form repeats one.
 
   -- a core that repeats no variant repeats none with a language value
   pub variant_languages_once : (c : CoreParts) → Distinct c.variants → VariantLanguagesOnce R c
   variant_languages_once c h = distinct_filter (has_variant_language R) c.variants h
 
-  -- core steps make no second variant with a language value
+  -- if a core repeats no variant with a language value, a core step leads to a core that repeats none
   pub variant_languages_once_kept : (c d : CoreParts) → CoreStep R c d → VariantLanguagesOnce R c → VariantLanguagesOnce R d
   variant_languages_once_kept c =
       let T : List ℕ → Bool = has_variant_language R in
@@ -383,7 +388,7 @@ module _ (R : List EntryParts) (C : MeetsCoreConditions R) where
       end_keeps (at_last kinds.Variant) (λ s. has_variant_language R s ≡ has_variant_language R v)
       (λ s t h p. let n = no_language R C s t h in stays t n.1 ∙ sym (stays s n.0) ∙ p) v refl
 
-  -- to choose the variants without a language value and to lead each to the end of its chain may be done in either
+  -- to pick the variants without a language value, and to lead each to the end of its chain, may be done in either
   -- order
   filter_last : (xs : List (List ℕ)) → filter (staying R) (map (last kinds.Variant) xs) ≡ map (last kinds.Variant) (filter (staying R) xs)
   filter_last [] = refl

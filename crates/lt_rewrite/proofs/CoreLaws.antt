@@ -1,4 +1,6 @@
--- Core steps come to an end, and give a proper core of a proper core.
+-- Core steps come to an end, since each makes a number lower, and lead from proper cores to proper cores, which spell
+-- no grandfathered tag (the law `steps_keep_proper`). A core is proper if its subtags are registered, and its extlang,
+-- if it has one, belongs to its language.
 use Rattle.std.proofs.Common.{rules, ◌≡◌, ℕ, zero, suc, Bool, true, false, List, [], ◌∷◌, ◌++◌, Option, Some, None}
 use Rattle.std.proofs.Common.{refl, sym, ap, ◌∙◌, subst, length, arith, ◌≤◌, ◌+◌, ◌≢◌, not, ◌<◌, All, ◌-◌, ◌&&◌, ◌||◌}
 use Rattle.std.proofs.Common.{bytes_eq}
@@ -32,12 +34,12 @@ use Rattle.lt_rewrite.proofs.CoreSteps.{core_step_no_longer, each_step}
 
 -- Core steps come to an end: each makes a number lower.
 
--- how many values follow `s` by the function `f`, counted up to `n`
+-- how many values follow a subtag on its chain by a function, counted up to a number
 left : (List ℕ → Option (List ℕ)) → ℕ → List ℕ → ℕ
 left f zero s = 0
 left f (suc n) s = option_map_or (λ t. suc (left f n t)) (f s) 0
 
--- where exactly `m` values follow, and `m` is no more than `n`, `left` gives `m`
+-- if exactly `m` values follow `s`, and `m` is at most `n`, `left` gives `m`
 left_takes : (f : List ℕ → Option (List ℕ)) (n m : ℕ) (s : List ℕ) → Takes f m s → m ≤ n → left f n s ≡ m
 unfolding left
 left_takes f zero zero s a h = refl
@@ -54,30 +56,30 @@ module _ (R : List EntryParts) where
   abbrev spare : ℕ
   spare = length R + 1
 
-  -- how many values follow an optional subtag of a kind; 0 where there is none
+  -- how many values follow an optional subtag of a kind; 0 if there is no subtag
   abbrev of_part : Kind → Option (List ℕ) → ℕ
   of_part k o = option_map_or (after k) o 0
 
-  -- what a variant adds to the weight: the values that follow it, and `spare`, since a VariantLanguage step puts a
-  -- language with values of its own in its stead
+  -- what a variant adds to the weight: the number of values that follow it, and `spare`, since a VariantLanguage step
+  -- drops it for a language that values of its own may follow
   abbrev of_variant : List ℕ → ℕ
   of_variant v = after kinds.Variant v + spare
 
-  -- a number that each core step makes lower: the values that follow the subtags, and `spare` for each extlang and
-  -- variant
+  -- the number that each core step makes lower: how many values follow the subtags, and `spare` for each extlang and
+  -- each variant
   pub weight : CoreParts → ℕ
   weight c =
       sum_by (λ _. spare) c.extlangs
       + (after kinds.Language c.language
       + (of_part kinds.Script c.script + (of_part kinds.Region c.region + sum_by of_variant c.variants)))
 
-  -- where all chains end, fewer than `spare` values follow a subtag
+  -- if all chains end, fewer than `spare` values follow a subtag
   after_most : All (HasEndingChain R) R → (k : Kind) (s : List ℕ) → after k s < spare
   after_most C k s =
       let t = takes_within R k s (chains_end R C k s) in
       omega (arith, t.1, left_takes (next_value R k) (length R) t.0 s t.2 t.1)
 
-  -- where all chains end, one value less follows the next value `t` than `s`
+  -- if all chains end, one value more follows `s` than its value `t`
   after_next : All (HasEndingChain R) R → (k : Kind) (s t : List ℕ) → next_value R k s ≡ Some t → after k s ≡ suc (after k t)
   after_next C k s t e =
       let a = takes_within R k t (chains_end R C k t) in
@@ -85,13 +87,13 @@ module _ (R : List EntryParts) where
       let same : suc a.0 ≡ b.0 = takes_unique (next_value R k) (suc a.0) b.0 s (t, e, a.2) b.2 in
       omega (arith, same, left_takes (next_value R k) (length R) a.0 t a.2 a.1, left_takes (next_value R k) (length R) b.0 s b.2 b.1)
 
-  -- the sum over a list of variants, cut at the variant `v`
+  -- the sum over a list of variants is that over those before the variant `v`, what `v` adds, and that over the others
   variants_with : (before : List (List ℕ)) (v : List ℕ) (vs : List (List ℕ)) → sum_by of_variant (before ++ v ∷ vs)
       ≡ sum_by of_variant before + (of_variant v + sum_by of_variant vs)
   variants_with before v vs = sum_by-append of_variant before (v ∷ vs)
       ∙ ap (λ n. sum_by of_variant before + n) (sum_by-cons of_variant v vs)
 
-  -- where all chains end, a core step makes the weight lower
+  -- if all chains end, a core step makes the weight lower
   pub weight_falls : All (HasEndingChain R) R → (c d : CoreParts) → CoreStep R c d → weight d < weight c
   unfolding weight
   weight_falls C c = each_step R c (λ d. weight d < weight c) (record {
@@ -118,7 +120,7 @@ module _ (R : List EntryParts) where
         );
   })
 
--- A core step on a proper core gives a proper core, and no proper core spells a grandfathered tag.
+-- A core step leads from a proper core to a proper core, and no proper core spells a grandfathered tag.
 
 -- a core step keeps the form of a core (RFC 5646, 2.1)
 pub step_shaped : (R : List EntryParts) → IsRegistry R → (c d : CoreParts) → IsCore c → CoreStep R c d → IsCore d
@@ -204,7 +206,7 @@ unfoldable pub distinct_test : List (List ℕ) → Bool
 distinct_test [] = true
 distinct_test (x ∷ xs) = list_all (λ y. not (bytes_eq y x)) xs && distinct_test xs
 
--- a list that passes the test repeats no subtag
+-- a list that passes `distinct_test` repeats no subtag
 pub distinct_from_test : (xs : List (List ℕ)) → distinct_test xs ≡ true → Distinct xs
 unfolding distinct_test
 distinct_from_test [] h = tt
@@ -216,7 +218,7 @@ distinct_from_test (x ∷ xs) h =
       distinct_from_test xs p.1,
     )
 
--- the end of a list without repeats has none
+-- the end `after` of a list without repeats has none
 distinct_rest : (before after : List (List ℕ)) → Distinct (before ++ after) → Distinct after
 distinct_rest [] after h = h
 distinct_rest (x ∷ xs) after h = distinct_rest xs after h.1
@@ -228,8 +230,8 @@ three_at_most (l ∷ s ∷ []) = is_script s || is_region s
 three_at_most (l ∷ s ∷ r ∷ []) = is_script s && is_region r
 three_at_most s = false
 
--- a test that the subtags of each grandfathered tag pass: none occurs twice, and they are more than a language, a
--- script and a region
+-- a test that the subtags of each grandfathered tag pass: none occurs twice, and there is more than a language, perhaps
+-- a script and perhaps a region
 of_grandfathered : List (List ℕ) → Bool
 of_grandfathered list = distinct_test list && not (three_at_most list)
 
@@ -238,7 +240,8 @@ tests_hold : list_all (λ (t : List ℕ). of_grandfathered (pieces t)) grandfath
 unfolding of_grandfathered distinct_test three_at_most grandfathered_texts is_script is_region
 tests_hold = refl
 
--- the subtags of a grandfathered tag do not repeat, and are more than a language, a script and a region
+-- none of the subtags of a grandfathered tag occurs twice, and there is more than a language, perhaps a script and
+-- perhaps a region
 grandfathered_is : (list : List (List ℕ)) (number : ℕ) → IsGrandfathered list number → Distinct list × (three_at_most list ≡ false)
 unfolding of_grandfathered grandfathered_list
 grandfathered_is list number g =
@@ -266,8 +269,8 @@ bare_test l (Some a) None s r = rw s refl
 bare_test l None (Some b) s r = or_right (is_script b) (is_region b) r
 bare_test l (Some a) (Some b) s r = and_from (is_script a) (is_region b) s r
 
--- a core of registered extlangs and variants that spells a grandfathered tag has an extlang or a variant as its second
--- subtag, and this has an entry
+-- if a core whose extlangs `xs` and variants `vs` are registered spells a grandfathered tag, its second subtag is an
+-- extlang or a variant, and has an entry
 second_registered : (R : List EntryParts) (c : CoreParts) (number : ℕ) (xs vs : List (List ℕ)) → IsCore c
     → c.extlangs ≡ xs → c.variants ≡ vs → ExtlangsFit R c.language xs
     → AllByRecursion (λ v. is_registered R kinds.Variant v ≡ true) vs → IsGrandfathered (spell_core c) number

@@ -1,4 +1,6 @@
--- What the parts of the code that settle a core reach, and where they rest. Only the chains' ends are used.
+-- Lemmas for `settle_core`, which settles a core part by part: to settle a part is to replace it by the end of its
+-- chain of values. Core steps lead from the core before each call to the core after it, and in the end none leads on.
+-- Of the registry this needs only that its chains end.
 use Rattle.std.proofs.Common.{rules, ◌≡◌, ℕ, suc, List, [], ◌∷◌, ◌++◌, Option, Some, None, refl, sym, ap, ◌∙◌, subst}
 use Rattle.std.proofs.Common.{length, take, drop, arith, ◌≤◌, ◌+◌, ◌<◌, get_or, set, All, Bor}
 use Rattle.std.specs.List.{AllByRecursion, remove}
@@ -19,7 +21,7 @@ use Rattle.lt_rewrite.proofs.Stars.{star_trans}
 use Rattle.lt_rewrite.proofs.CoreSteps.{along, by_extlang, by_variant, by_variant_language, rests, sole}
 use Rattle.lt_rewrite.proofs.CoreForms.{last}
 
--- core steps lead from `c` to `d`, which differs in its variants alone: they are `end` in number, and those before
+-- core steps lead from `c` to `d`, which differs only in its variants: there are `end` variants, and those before
 -- `index` are at the ends of their chains
 pub record VariantsSettled (R : List EntryParts) (c d : CoreParts) (index end : ℕ) : Type 0 where
   pub reached : Star (CoreStep R) c d
@@ -27,11 +29,12 @@ pub record VariantsSettled (R : List EntryParts) (c d : CoreParts) (index end : 
   pub count : length d.variants ≡ end
   pub final : All (λ (v : List ℕ). variant_value R v ≡ None) (take index d.variants)
 
--- before the first variant a core is as `VariantsSettled` tells
+-- before any variant of the core `c` is settled, `VariantsSettled` holds with `c` as both cores and the index 0
 pub none_settled : (R : List EntryParts) (c : CoreParts) (n : ℕ) → n ≡ length c.variants → VariantsSettled R c c 0 n
 none_settled R c n e = record { reached = done; others = refl; count = sym e; final = λ k d h. absurd (omega (arith, h)) }
 
--- the variant `s` at the index `i` is replaced by the end `t` of its chain, and so one variant more is settled
+-- if the variant `s` at the index `i` of `d` is replaced by the end `t` of its chain, one variant more is settled in
+-- the core `e` that results
 pub one_settled : (R : List EntryParts) (c d e : CoreParts) (i n : ℕ) (s t : List ℕ) (us : List (List ℕ))
     → VariantsSettled R c d i n → i < n → us ≡ d.variants → s ≡ get_or us i s → EndsIn (next_value R kinds.Variant) s t
     → e ≡ record d { variants = set d.variants i t } → VariantsSettled R c e (i + 1) n
@@ -54,11 +57,11 @@ one_settled R c d e i n s t us S below own at ends new =
           (All-push P (take i vs) t S.final ends.2);
     })
 
--- once the index is past the last variant, the variants before it are all variants
+-- once the index `i` is past the last variant, the variants before it are all variants
 pub all_settled : (R : List EntryParts) (c d : CoreParts) (i n : ℕ) → VariantsSettled R c d i n → n ≤ i → take i d.variants ≡ d.variants
 all_settled R c d i n S past = take_all i d.variants (omega (arith, past, S.count))
 
--- once the index is past the last variant, all variants are at the ends of their chains
+-- once the index `i` is past the last variant, all variants are at the ends of their chains
 pub all_final : (R : List EntryParts) (c d : CoreParts) (i n : ℕ) → VariantsSettled R c d i n → n ≤ i
     → All (λ (v : List ℕ). variant_value R v ≡ None) d.variants
 all_final R c d i n S past = subst (All (λ v. variant_value R v ≡ None)) (all_settled R c d i n S past) S.final
@@ -71,15 +74,16 @@ extlang_reached R c d e x l xs own at one value dropped new =
     subst (λ e. Star (CoreStep R) c e) (sym (new ∙ (λ i. record (dropped i) { language = value i })))
     (onward (by_extlang R c x (sym own ∙ sole xs x at one)) done)
 
--- steps lead from the one core to the other, whose language and variants are at the ends of their chains
+-- core steps lead from `c` to `d`, which differs only in its language and its variants, and these are at the ends of
+-- their chains
 pub record LanguageSettled (R : List EntryParts) (c d : CoreParts) : Type 0 where
   pub reached : Star (CoreStep R) c d
   pub language : HasFinalLanguage R d
   pub variants : HasFinalVariants R d
   pub others : d ≡ record c { language = d.language; variants = d.variants }
 
--- after the VariantLanguage step of the variant at `i`, and the steps to the end of the new language's chain, `g` is
--- `d` but for its language and that variant
+-- after the VariantLanguage step of the variant at `i` of `d`, and the steps to the end of the new language's chain,
+-- the core `g` that results is `d` except for its language and that variant
 pub others_left : (d e f g : CoreParts) (i : ℕ) (m : List ℕ) → e ≡ record d { variants = remove d.variants i }
     → f ≡ record e { language = m } → g ≡ record f { language = g.language }
     → g ≡ record d { language = g.language; variants = remove d.variants i }
@@ -107,7 +111,8 @@ language_settled R c d e f g i m none S t dropped new after final other =
     let others : g ≡ record c { language = g.language; variants = g.variants } = let o = S.others in cc in
     search rules
 
--- the variant at an index is the first with a VariantLanguage step, where none before it has one
+-- the variant `v` at the index `i` is the leftmost with a VariantLanguage step, which puts the language `m`, if a call
+-- found that step (`o`), and no variant before `v` has one
 pub first_variant_language_at : (R : List EntryParts) (c : CoreParts) (i : ℕ) (l v m : List ℕ) (vs : List (List ℕ)) (o
     : Option (Bor (List ℕ))) (b : Bor (List ℕ)) → vs ≡ c.variants → i < length vs → v ≡ get_or vs i v → l ≡ c.language
     → option_copied o ≡ language_beside R l v → o ≡ Some b → m ≡ b.now
@@ -122,7 +127,8 @@ first_variant_language_at R c i l v m vs o b same h e its value found copy none 
       leftmost = subst (λ us. AllByRecursion P (take i us)) same (recursion_from_All P (take i vs) none);
     }
 
--- where neither the variant `v` at `i` nor one before it has a VariantLanguage step, none before `i` + 1 has one
+-- if a call found no VariantLanguage step (`o`) of the variant `v` at `i`, and no variant before it has one, none
+-- before `i` + 1 has one
 pub none_more : (R : List EntryParts) (c : CoreParts) (i : ℕ) (l v : List ℕ) (vs : List (List ℕ)) (o : Option
     (Bor (List ℕ))) → i < length vs → v ≡ get_or vs i v → l ≡ c.language → option_copied o ≡ language_beside R l v
     → o ≡ None → All (λ (u : List ℕ). language_beside R c.language u ≡ None) (take i vs)
@@ -131,7 +137,8 @@ none_more R c i l v vs o h e its value found none =
     let P : List ℕ → Type 0 = λ u. language_beside R c.language u ≡ None in
     All-more P vs i v h none (subst P e (ap (λ l. language_beside R l v) (sym its) ∙ sym value ∙ ap option_copied found))
 
--- what the core `c` is after the calls that settle its script (`c1`), its region (`c2`) and its extlang (`c3`)
+-- the calls that settle the script, the region and the extlang of the core `c` give `c1`, `c2` and `c3`: core steps
+-- lead there, the script and the region are at the ends of their chains, and in `c3` there is not exactly one extlang
 pub record Settlings (R : List EntryParts) (c c1 c2 c3 : CoreParts) : Type 0 where
   pub script : Star (CoreStep R) c c1
   pub region : Star (CoreStep R) c1 c2
@@ -142,8 +149,9 @@ pub record Settlings (R : List EntryParts) (c c1 c2 c3 : CoreParts) : Type 0 whe
   pub other_than_region : c2 ≡ record c1 { region = c2.region }
   pub other_than_extlang : c3 ≡ record c2 { language = c3.language; extlangs = c3.extlangs }
 
--- after the calls of `Settlings` steps on the language and the variants lead to `d`, whose variants are at the ends of
--- their chains, as its language is if there are no extlangs: `d` is the core normal form of `c`
+-- If, after the calls of `Settlings`, steps on the language and the variants lead to `d`, then `d` is the core normal
+-- form of `c`: its variants must be at the ends of their chains and, if there are no extlangs, its language too, with
+-- no VariantLanguage step left.
 pub rests_settled : (R : List EntryParts) (c c1 c2 c3 d : CoreParts) → Settlings R c c1 c2 c3 → Star (CoreStep R) c3 d
     → HasFinalVariants R d → (c3.extlangs ≡ [] → HasFinalLanguage R d × HasNoVariantLanguage R d)
     → d ≡ record c3 { language = d.language; variants = d.variants } → IsCoreNormalForm R c d

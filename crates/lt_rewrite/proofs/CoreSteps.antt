@@ -1,5 +1,6 @@
--- A core step by the part that it replaces, and what single steps reach. So a proof on core steps has a case for each
--- kind of step.
+-- Core steps by the part that they replace, so that a proof about core steps has one case for each kind of step
+-- (`EachStep`); what steps reach one after another; and when no step leads on (`AtRest`). The lists of variants are cut
+-- at the variant of the step.
 use Rattle.std.proofs.Common.{rules, ◌≡◌, ℕ, suc, Bool, true, false, eqb, List, [], ◌∷◌, ◌++◌, Option, Some, None, refl}
 use Rattle.std.proofs.Common.{sym, ap, ◌∙◌, subst, length, take, drop, is_none, arith, ◌≤◌, map, append_assoc, cond}
 use Rattle.std.proofs.Common.{◌≢◌, not, filter, get_or, set, Bor, ◌⊎◌, inl, inr}
@@ -27,14 +28,13 @@ use Rattle.lt_rewrite.proofs.Chains.{by_next, chase_keeps}
 use Rattle.lt_rewrite.proofs.Stars.{star_trans}
 use Rattle.lt_rewrite.proofs.Entries.{some_if}
 
--- A core step by the part that it replaces, the lists of variants cut at the variant: what each leads to, and each from
--- what it needs.
+-- What each kind of core step needs, and to what it leads.
 
 -- a list of length 0 is empty
 pub none_of : (xs : List (List ℕ)) → eqb (length xs) 0 ≡ true → xs ≡ []
 none_of xs h = nil_from_length xs (eqb-true (length xs) 0 h)
 
--- a list of length 1 is its first element `x` alone
+-- a list of length 1 has only its first element, `x`
 pub sole : (xs : List (List ℕ)) (x : List ℕ) → x ≡ get_or xs 0 x → length xs ≡ 1 → xs ≡ x ∷ []
 sole (y ∷ []) x e h = ap (λ z. z ∷ []) (sym e)
 sole s x e h = absurd (omega arith)
@@ -45,12 +45,12 @@ one_extlang c x t =
     let a = some_if (eqb (length c.extlangs) 1) (slice_get c.extlangs 0) x t in
     sole c.extlangs x (sym (get_or_from_slice_get c.extlangs 0 x x a.1)) (eqb-true (length c.extlangs) 1 a.0)
 
--- what is given only where there are no extlangs: if it is `x`, there are none, and `o` is `x`
+-- if `o` is given only to a core without extlangs, and what is given is `x`, then there are no extlangs, and `o` is `x`
 pub alone : (c : CoreParts) (o : Option (List ℕ)) (x : List ℕ) → (if eqb (length c.extlangs) 0 then o else None)
     ≡ Some x → (c.extlangs ≡ []) × (o ≡ Some x)
 alone c o x t = let a = some_if (eqb (length c.extlangs) 0) o x t in (none_of c.extlangs a.0, a.1)
 
--- a list, cut at its element `v` at the index `i`
+-- a list is what is before its element `v` at the index `i`, then `v`, and then what is after it
 pub got_at : (vs : List (List ℕ)) (i : ℕ) (v : List ℕ) → slice_get vs i ≡ Some v → vs ≡ take i vs ++ v ∷ drop (suc i) vs
 got_at vs i v t = round vs i v (slice_get_within vs i v t) (sym (get_or_from_slice_get vs i v v t))
 
@@ -60,7 +60,7 @@ pub get_at : (before : List (List ℕ)) (v : List ℕ) (after vs : List (List �
 get_at before v after vs e =
     slice_get-get_or vs (length before) v (cut_within before v after vs e) ∙ ap Some (cut_at before v after vs v e)
 
--- a test that no element has a value by `f`, as a fact of each
+-- if the test holds that no element has a value by `f`, it is a fact of each element
 pub none_before : (f : List ℕ → Option (List ℕ)) (xs : List (List ℕ)) → list_all (λ u. is_none (f u)) xs ≡ true
     → AllByRecursion (λ u. f u ≡ None) xs
 none_before f xs h =
@@ -68,22 +68,23 @@ none_before f xs h =
     (λ u e. by_next (f u) (λ n. n) (λ a s. absurd (true≢false (sym e ∙ ap is_none s)))) xs
     (facts_of_tests (λ u. is_none (f u)) xs h)
 
--- the fact that no element has a value by `f`, as a test
+-- if no element has a value by `f`, the test of that holds
 none_test : (f : List ℕ → Option (List ℕ)) (xs : List (List ℕ)) → AllByRecursion (λ u. f u ≡ None) xs
     → list_all (λ u. is_none (f u)) xs ≡ true
 none_test f xs h =
     tests_of_facts (λ u. is_none (f u)) xs (AllByRecursion-weaker (λ u. f u ≡ None) (λ u. is_none (f u) ≡ true) (λ u e. ap is_none e) xs h)
 
--- at the only extlang a step may be taken
+-- if `x` is the only extlang, a step may be taken at it
 pub extlang_there : (c : CoreParts) (x : List ℕ) → c.extlangs ≡ x ∷ [] → subtag_at c at_extlang ≡ Some x
 extlang_there c x one = ap (λ xs. if eqb (length xs) 1 then slice_get xs 0 else None) one
 
--- what is given only where there are no extlangs is given where there are none
+-- if `o`, which is `x`, is given only to a core without extlangs, and there are none, then `x` is given
 pub there_alone : (c : CoreParts) (o : Option (List ℕ)) (x : List ℕ) → c.extlangs ≡ [] → o ≡ Some x
     → (if eqb (length c.extlangs) 0 then o else None) ≡ Some x
 there_alone c o x none e = ap (λ xs. if eqb (length xs) 0 then o else None) none ∙ e
 
--- the value of a variant `v` at `i` for its VariantLanguage step, where no variant before it has a VariantLanguage step
+-- the variant `v` at `i` has the value `m` for a VariantLanguage step, if `language_beside` gives `m` for it and the
+-- core's language, and None for the variants before it
 pub has_leftmost : (R : List EntryParts) (c : CoreParts) (i : ℕ) (v m : List ℕ)
     → language_beside R c.language v ≡ Some m
     → AllByRecursion (λ u. language_beside R c.language u ≡ None) (take i c.variants)
@@ -92,7 +93,7 @@ has_leftmost R c i v m has leftmost =
     let f : List ℕ → Option (List ℕ) = language_beside R c.language in
     ap (λ b. if b then f v else None) (none_test f (take i c.variants) leftmost) ∙ has
 
--- `P` holds of each core to which a core step from `c` leads, for each kind of step by itself
+-- for each kind of step by itself: `P` holds of each core to which a step of this kind leads from the core `c`
 pub record EachStep (R : List EntryParts) (c : CoreParts) (P : CoreParts → Type 0) : Type 0 where
   pub extlang : (x : List ℕ) → c.extlangs ≡ x ∷ [] → P (record c { language = replacement R x; extlangs = [] })
   pub language : (v : List ℕ) → c.extlangs ≡ [] → preferred_value R kinds.Language c.language ≡ Some v → P (record c { language = v })
@@ -106,8 +107,7 @@ pub record EachStep (R : List EntryParts) (c : CoreParts) (P : CoreParts → Typ
       → P (record c { language = m; variants = before ++ after })
 
 module _ (R : List EntryParts) (c : CoreParts) where
-  -- what holds of the core to which each kind of step leads, as `EachStep` tells, holds of the core `d` to which any
-  -- core step leads
+  -- if `P` holds for each kind of step, as `EachStep` says, it holds of the core `d` to which any core step leads
   pub each_step : (P : CoreParts → Type 0) → EachStep R c P → (d : CoreParts) → CoreStep R c d → P d
   each_step P E d s = subst P (sym s.result) (at s.spot s.subtag s.there s.value s.has)
     where
@@ -129,30 +129,30 @@ module _ (R : List EntryParts) (c : CoreParts) where
           E.variant_language (take i c.variants) x v (drop (suc i) c.variants) a.0 (got_at c.variants i x a.1) l.1
           (none_before f (take i c.variants) l.0)
 
-  -- a core step from its spot, the subtag `s` there and the value `v` of `s`
+  -- there is a core step at a spot, if a step may be taken at the subtag `s` there, and `s` has the value `v`
   pub step : (spot : Spot) (s v : List ℕ) → subtag_at c spot ≡ Some s → value_at R c spot s ≡ Some v → CoreStep R c (replaced c spot v)
   step spot s v there has = record { spot = spot; subtag = s; there = there; value = v; has = has; result = refl }
 
-  -- the Extlang step of the only extlang `x`
+  -- there is an Extlang step, if `x` is the only extlang
   pub by_extlang : (x : List ℕ) → c.extlangs ≡ x ∷ [] → CoreStep R c (record c { language = replacement R x; extlangs = [] })
   by_extlang x one = step at_extlang x (replacement R x) (extlang_there c x one) refl
 
-  -- the Language step to the value `v`
+  -- there is a Language step to `v`, if that is the language's value, and there are no extlangs
   pub by_language : (v : List ℕ) → c.extlangs ≡ [] → preferred_value R kinds.Language c.language ≡ Some v
       → CoreStep R c (record c { language = v })
   by_language v none has = step at_language c.language v (there_alone c (Some c.language) c.language none refl) has
 
-  -- the Script step from `s` to its value `v`
+  -- there is a Script step from the script `s` to its value `v`
   pub by_script : (s v : List ℕ) → c.script ≡ Some s → preferred_value R kinds.Script s ≡ Some v
       → CoreStep R c (record c { script = Some v })
   by_script s v there has = step at_script s v there has
 
-  -- the Region step from `s` to its value `v`
+  -- there is a Region step from the region `s` to its value `v`
   pub by_region : (s v : List ℕ) → c.region ≡ Some s → preferred_value R kinds.Region s ≡ Some v
       → CoreStep R c (record c { region = Some v })
   by_region s v there has = step at_region s v there has
 
-  -- the Variant step from `v` to its value `w`
+  -- there is a Variant step from the variant `v` to its value `w`, which is a variant
   pub by_variant : (before : List (List ℕ)) (v w : List ℕ) (after : List (List ℕ)) → c.variants ≡ before ++ v ∷ after
       → variant_value R v ≡ Some w → CoreStep R c (record c { variants = before ++ w ∷ after })
   by_variant before v w after there has =
@@ -160,7 +160,8 @@ module _ (R : List EntryParts) (c : CoreParts) where
       ∙ set_at before v after w (length before) refl)
       (step (at_variant (length before)) v w (get_at before v after c.variants there) has)
 
-  -- the VariantLanguage step of `v`, the leftmost variant that has one, to the language `m`
+  -- there is a VariantLanguage step that drops `v` and puts the language `m`, if there are no extlangs, and `v` is the
+  -- leftmost variant with such a step
   pub by_variant_language : (before : List (List ℕ)) (v m : List ℕ) (after : List (List ℕ)) → c.extlangs ≡ []
       → c.variants ≡ before ++ v ∷ after → language_beside R c.language v ≡ Some m
       → AllByRecursion (λ u. language_beside R c.language u ≡ None) before
@@ -176,7 +177,7 @@ module _ (R : List EntryParts) (c : CoreParts) where
       (has_leftmost R c n v m has (subst (AllByRecursion (λ u. language_beside R c.language u ≡ None)) (sym front)
       leftmost)))
 
--- A core step makes the subtags of a core no more.
+-- A core step leads to a core with no more subtags.
 
 -- each part of `d` has at most as many subtags as that part of `c`
 pub record IsNoLonger (d c : CoreParts) : Type 0 where
@@ -214,9 +215,10 @@ core_step_no_longer R c = each_step R c (λ d. IsNoLonger d c) (record {
 pub spelled_no_longer : (c d : CoreParts) → IsNoLonger d c → length (spell_core d) ≤ length (spell_core c)
 spelled_no_longer c d h = simp length-append (omega arith)
 
--- What single steps reach, one after another.
+-- What core steps reach, one after another.
 
--- steps lead a subtag `s` to the end `e` of its chain, in the core that `at` makes of it
+-- core steps lead from the core that `at` makes of a subtag `s` to the one that it makes of the end `e` of the chain of
+-- `s`
 pub along : (R : List EntryParts) (f : List ℕ → Option (List ℕ)) (at : List ℕ → CoreParts)
     → ((s t : List ℕ) → f s ≡ Some t → CoreStep R (at s) (at t)) → (s e : List ℕ) → EndsIn f s e
     → Star (CoreStep R) (at s) (at e)
@@ -225,7 +227,8 @@ along R f at step s e h =
     (chase_keeps f (λ u. Star (CoreStep R) (at s) (at u)) (λ u t g r. star_trans r (onward (step u t g) done)) h.0 s
     done)
 
--- steps lead a core with an optional subtag, which is `s`, to the core `d` with the end `e` of the chain of `s`
+-- core steps lead from the core that `at` makes of an optional subtag, which is `s`, to the core `d`, which it makes of
+-- the end `e` of the chain of `s`
 part_reached : (R : List EntryParts) (f : List ℕ → Option (List ℕ)) (at : Option (List ℕ) → CoreParts)
     → ((s t : List ℕ) → f s ≡ Some t → CoreStep R (at (Some s)) (at (Some t)))
     → (part : Option (List ℕ)) (d : CoreParts) (o : Option (Bor (List ℕ))) (s : Bor (List ℕ)) (e : List ℕ)
@@ -235,21 +238,21 @@ part_reached R f at step part d o s e own some ends new =
     (subst (λ p. Star (CoreStep R) (at p) (at (Some e))) (ap option_copied (sym some) ∙ own)
     (along R f (λ u. at (Some u)) step s.now e ends))
 
--- steps lead a core to the one with the end `e` of the chain of its script
+-- core steps lead from a core to the one with the end `e` of the chain of its script `s`
 pub script_reached : (R : List EntryParts) (c d : CoreParts) (o : Option (Bor (List ℕ))) (s : Bor (List ℕ)) (e : List ℕ)
     → option_copied o ≡ c.script → o ≡ Some s → EndsIn (next_value R kinds.Script) s.now e
     → d ≡ record c { script = Some e } → Star (CoreStep R) c d
 script_reached R c d = part_reached R (next_value R kinds.Script) (λ o. record c { script = o })
     (λ u t f. by_script R (record c { script = Some u }) u t refl f) c.script d
 
--- steps lead a core to the one with the end `e` of the chain of its region
+-- core steps lead from a core to the one with the end `e` of the chain of its region `s`
 pub region_reached : (R : List EntryParts) (c d : CoreParts) (o : Option (Bor (List ℕ))) (s : Bor (List ℕ)) (e : List ℕ)
     → option_copied o ≡ c.region → o ≡ Some s → EndsIn (next_value R kinds.Region) s.now e
     → d ≡ record c { region = Some e } → Star (CoreStep R) c d
 region_reached R c d = part_reached R (next_value R kinds.Region) (λ o. record c { region = o })
     (λ u t f. by_region R (record c { region = Some u }) u t refl f) c.region d
 
--- steps lead a core without extlangs to the one with the end `e` of the chain of its language
+-- core steps lead from a core without extlangs to the one with the end `e` of the chain of its language `l`
 pub language_reached : (R : List EntryParts) (c d : CoreParts) (l e : List ℕ) → c.extlangs ≡ [] → l ≡ c.language
     → EndsIn (next_value R kinds.Language) l e → d ≡ record c { language = e } → Star (CoreStep R) c d
 language_reached R c d l e none own ends new =
@@ -258,7 +261,7 @@ language_reached R c d l e none own ends new =
     (λ u t f. by_language R (record c { language = u }) t none f) c.language e
     (subst (λ s. EndsIn (next_value R kinds.Language) s e) own ends))
 
--- no subtag of `d` is left to replace, part by part
+-- the core `d` is at rest: part by part, no subtag of it is left to replace
 pub record AtRest (R : List EntryParts) (d : CoreParts) : Type 0 where
   pub extlang : (x : List ℕ) → d.extlangs ≡ x ∷ [] → ⊥
   pub language : d.extlangs ≡ [] → preferred_value R kinds.Language d.language ≡ None
@@ -267,7 +270,7 @@ pub record AtRest (R : List EntryParts) (d : CoreParts) : Type 0 where
   pub variant : AllByRecursion (λ v. variant_value R v ≡ None) d.variants
   pub variant_language : d.extlangs ≡ [] → AllByRecursion (λ v. language_beside R d.language v ≡ None) d.variants
 
--- no core step leads from `d`, if no subtag of it is left to replace
+-- no core step leads from a core `d` that is at rest
 pub rests : (R : List EntryParts) (d e : CoreParts) → AtRest R d → CoreStep R d e → ⊥
 rests R d e A = each_step R d (λ _. ⊥) (record {
   extlang = A.extlang;
@@ -282,14 +285,14 @@ rests R d e A = each_step R d (λ _. ⊥) (record {
       none-some m (sym (all_middle P before v after (subst (AllByRecursion P) there (A.variant_language none))) ∙ has);
 }) e
 
--- Lists that a test divides.
+-- Lists of which a test picks some elements, and the leftmost element with a value.
 
 -- a list without repeats stays so without one of its elements
 pub distinct_without : {A : Type 0} (before : List A) (v : A) (after : List A) → Distinct (before ++ v ∷ after) → Distinct (before ++ after)
 distinct_without [] v after h = h.1
 distinct_without (u ∷ us) v after h = (all_without (λ y. y ≢ u) us v after h.0, distinct_without us v after h.1)
 
--- an element that fails the test `T` makes no difference to those that pass
+-- without an element `v` that fails the test `T` a list has the same elements that pass
 pub filter_without : (T : List ℕ → Bool) (before : List (List ℕ)) (v : List ℕ) (after : List (List ℕ)) → T v ≡ false
     → filter T (before ++ v ∷ after) ≡ filter T (before ++ after)
 filter_without T before v after e =
@@ -297,7 +300,7 @@ filter_without T before v after e =
     ∙ ap (λ l. filter T before ++ l) (cond-false (T v) (v ∷ filter T after) (filter T after) e)
     ∙ sym (filter-append T before after)
 
--- those of a list without repeats that pass a test do not repeat
+-- in a list without repeats the elements that pass a test have no repeats
 pub distinct_filter : {A : Type 0} (T : A → Bool) (xs : List A) → Distinct xs → Distinct (filter T xs)
 distinct_filter T [] h = tt
 distinct_filter T (x ∷ xs) h =
@@ -314,7 +317,7 @@ all_unfilter P T (x ∷ xs) f h = elim (cases_Bool (T x)) [
   | inr e ↦ (f x e, all_unfilter P T xs f (rw e at h))
 ]
 
--- where neither those that pass a test repeat, nor those that fail it, no element repeats
+-- if neither the elements that pass a test nor those that fail it have repeats, the list has none
 pub merge : {A : Type 0} (T : A → Bool) (xs : List A) → Distinct (filter T xs) → Distinct (filter (λ y. not (T y)) xs) → Distinct xs
 merge T [] h k = tt
 merge T (x ∷ xs) h k = elim (cases_Bool (T x)) [
@@ -329,7 +332,7 @@ merge T (x ∷ xs) h k = elim (cases_Bool (T x)) [
       )
 ]
 
--- where what `g` makes of the elements does not repeat, the elements do not
+-- if what `g` makes of the elements has no repeats, the list has none
 pub distinct_unmap : {A B : Type 0} (g : A → B) (xs : List A) → Distinct (map g xs) → Distinct xs
 distinct_unmap g [] h = tt
 distinct_unmap g (x ∷ xs) h = (
@@ -338,7 +341,7 @@ distinct_unmap g (x ∷ xs) h = (
   distinct_unmap g xs h.1,
 )
 
--- the leftmost element of `vs` that has a value by `f`, its value, and what is before and after it
+-- the leftmost element of `vs` that has a value by `f` (`variant`), its value, and what is before and after it
 pub record Picked (f : List ℕ → Option (List ℕ)) (vs : List (List ℕ)) : Type 0 where
   pub before : List (List ℕ)
   pub variant : List ℕ
@@ -348,11 +351,11 @@ pub record Picked (f : List ℕ → Option (List ℕ)) (vs : List (List ℕ)) : 
   pub has : f variant ≡ Some value
   pub leftmost : AllByRecursion (λ u. f u ≡ None) before
 
--- the leftmost element of a list that has a value by a function, or the fact that none has one
+-- the leftmost element of a list that has a value by a function (`Picked`), or the fact that none has one
 abbrev pub Pick : (List ℕ → Option (List ℕ)) → List (List ℕ) → Type 0
 Pick f vs = Picked f vs ⊎ AllByRecursion (λ u. f u ≡ None) vs
 
--- the leftmost element with a value is found, or none has a value
+-- in each list the leftmost element with a value by `f` is found, or none has a value
 pub pick : (f : List ℕ → Option (List ℕ)) (vs : List (List ℕ)) → Pick f vs
 pick f [] = inr tt
 pick f (v ∷ vs) =
@@ -371,7 +374,8 @@ pick f (v ∷ vs) =
     })
     later e (inr none) = inr (e, none)
 
--- the leftmost element with a value is unique: so are its value, and the list without it
+-- if one list is cut twice at its leftmost element with a value by `f`, both cuts have the same value, and the same
+-- list without the element
 pub one_leftmost : (f : List ℕ → Option (List ℕ)) (b c : List (List ℕ)) (v w m n : List ℕ) (x y : List (List ℕ))
     → b ++ v ∷ x ≡ c ++ w ∷ y → f v ≡ Some m → f w ≡ Some n → AllByRecursion (λ u. f u ≡ None) b
     → AllByRecursion (λ u. f u ≡ None) c → (m ≡ n) × (b ++ x ≡ c ++ y)

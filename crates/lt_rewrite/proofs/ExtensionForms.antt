@@ -1,4 +1,6 @@
--- The normal form of an extension and of a list of extensions, where each core has one.
+-- The normal form of an extension (`normal_extension`) and of a list of extensions (`normal_extensions`), under the
+-- conditions C1 to C6 (`MeetsCoreConditions`), by which the source of a `t` extension has one. Steps on extensions keep
+-- their shapes, and make them no longer.
 use Rattle.std.proofs.Common.{◌≡◌, ℕ, ◌≤◌, Bool, true, false, cond, List, refl, sym, ap, ◌∙◌, subst, subst₂, ap₂}
 use Rattle.std.proofs.Common.{length, arith, Option, Some, None, ◌==◌}
 use Rattle.std.specs.Prelude.{map, option_map}
@@ -39,8 +41,9 @@ singleton_total = on_total (λ (e : ExtensionParts). e.singleton) nat_cmp_total
 abbrev pub extension : ℕ → List (List ℕ) → ExtensionParts
 extension singleton subtags = record { singleton = singleton; subtags = subtags }
 
--- the normal form `q` of an extension's parts `p` spells that of the extension; the parts of subtags are told by `Is`
--- and spelled by `spell`, and the steps inside the extension are those on its parts
+-- if `q` is the normal form of the parts `p` of an extension, the extension that `q` spells is the normal form of the
+-- extension that `p` spells. `Is` says which parts subtags have, `spell` spells them, and the steps inside the
+-- extension are those on its parts.
 parts_settled : (R : List EntryParts) (n : ℕ) {F : Type 0} (Step : F → F → Type 0) (spell : F
     → List (List ℕ)) (Is : List (List ℕ) → F → Type 0) → ((s : List (List ℕ)) (p q : F) → Is s p → Is s q → p ≡ q)
     → ((p q : F) → Step p q → Is (spell p) p → Is (spell q) q)
@@ -60,7 +63,8 @@ from_unicode : (R : List EntryParts) (s : List (List ℕ)) (f : ExtensionParts) 
 from_unicode R s f (in_unicode p q _ _ from _ t) = (p, q, from, t)
 from_unicode R s f (in_transform p q is_t _ _ _ _) = absurd (omega (arith, is_t))
 
--- the `u` extension that the normal form `q` of its parts spells is the normal form of the extension
+-- if `q` is the normal form of the parts of a `u` extension, the extension that `q` spells is the normal form of the
+-- extension
 pub unicode_settled : (R : List EntryParts) (e : ExtensionParts) (p q : UForm) → e.singleton ≡ unicode
     → IsUnicode e.subtags p → IsNormalForm UnicodeStep p q
     → IsNormalForm (ExtensionStep R) e (extension unicode (spell_u q))
@@ -77,7 +81,8 @@ from_transform : (R : List EntryParts) (s : List (List ℕ)) (f : ExtensionParts
 from_transform R s f (in_unicode p q is_u _ _ _ _) = absurd (omega (arith, is_u))
 from_transform R s f (in_transform p q _ _ from _ t) = (p, q, from, t)
 
--- the `t` extension that the normal form `q` of its parts spells is the normal form of the extension
+-- if `q` is the normal form of the parts of a `t` extension, the extension that `q` spells is the normal form of the
+-- extension
 pub transform_settled : (R : List EntryParts) → IsRegistry R → (e : ExtensionParts) (p q : TForm)
     → e.singleton ≡ transform → IsTransform e.subtags p → IsNormalForm (TransformStep R) p q
     → IsNormalForm (ExtensionStep R) e (extension transform (spell_t q))
@@ -88,19 +93,20 @@ transform_settled R G e p q u k n =
     (λ a b s i j. in_transform a b refl refl i j s) (from_transform R) p q
     (record { shaped = k.shaped; spelled = refl }) n)
 
--- no step leads from an extension, if none leads from it as a `u` and none as a `t` extension
+-- no step leads from an extension, if none leads from it in case it is a `u` extension, and none in case it is a `t`
+-- extension: there are no steps in others
 pub each_rests : (R : List EntryParts) (e : ExtensionParts) → (e.singleton ≡ unicode → Rests (ExtensionStep R) e)
     → (e.singleton ≡ transform → Rests (ExtensionStep R) e) → Rests (ExtensionStep R) e
 each_rests R e u t f (in_unicode p q is_u kept from to s) = u is_u f (in_unicode p q is_u kept from to s)
 each_rests R e u t f (in_transform p q is_t kept from to s) = t is_t f (in_transform p q is_t kept from to s)
 
--- a step on extensions is a step inside one part, or on the order of the parts
+-- a step on extensions is a step inside one of them, or one on their order, as a step on a list of parts
 pub to_part : (R : List EntryParts) (es fs : List ExtensionParts) → ExtensionsStep R es fs
     → PartStep (ExtensionStep R) false singleton_cmp es fs
 to_part R es fs (inside before e f after there result s) = on_part before e f after there result s
 to_part R es fs (among s) = on_order s
 
--- a step inside one part, or on the order of the parts, is a step on extensions
+-- a step on a list of parts, inside one of the extensions or on their order, is a step on extensions
 from_part : (R : List EntryParts) (es fs : List ExtensionParts) → PartStep (ExtensionStep R) false singleton_cmp es fs
     → ExtensionsStep R es fs
 from_part R es fs (on_part before e f after a b s) = inside before e f after a b s
@@ -129,7 +135,7 @@ module _ (R : List EntryParts) (G : IsRegistry R) (C : MeetsCoreConditions R) wh
   pub normal_extension : ExtensionParts → ExtensionParts
   normal_extension e = extension e.singleton (subtags_form (e.singleton == unicode) (e.singleton == transform) e.subtags)
 
-  -- the normal form of a `u` extension with the parts `p`
+  -- the normal form of a `u` extension with the parts `p` is what the normal form of `p` spells
   unicode_form : (e : ExtensionParts) (p : UForm) → e.singleton ≡ unicode → IsUnicode e.subtags p
       → normal_extension e ≡ extension unicode (spell_u (u_form p))
   unfolding normal_extension
@@ -137,7 +143,7 @@ module _ (R : List EntryParts) (G : IsRegistry R) (C : MeetsCoreConditions R) wh
       ap (λ n. normal_extension (extension n e.subtags)) h
       ∙ ap (λ o. extension unicode (u_subtags o e.subtags)) ((u_decided e.subtags p).1 k)
 
-  -- the normal form of a `t` extension with the parts `p`
+  -- the normal form of a `t` extension with the parts `p` is what the normal form of `p` spells
   transform_form : (e : ExtensionParts) (p : TForm) → e.singleton ≡ transform → IsTransform e.subtags p
       → normal_extension e ≡ extension transform (spell_t (t_form R C p))
   unfolding normal_extension
@@ -153,7 +159,7 @@ module _ (R : List EntryParts) (G : IsRegistry R) (C : MeetsCoreConditions R) wh
       transform_form e p is_t from ∙ ap (λ p. extension transform (spell_t p)) ((t_formed R C).kept p q s)
       ∙ sym (transform_form f q (kept ∙ is_t) to)
 
-  -- the normal form of a `u` extension, whether its subtags have parts or not
+  -- `u_subtags` gives the normal form of a `u` extension, whether its subtags `s` have parts (`o`) or not
   unicode_normal : (s : List (List ℕ)) (o : Option UForm) → unicode_of s ≡ o
       → IsNormalForm (ExtensionStep R) (extension unicode s) (extension unicode (u_subtags o s))
   unicode_normal s None e = record {
@@ -162,7 +168,7 @@ module _ (R : List EntryParts) (G : IsRegistry R) (C : MeetsCoreConditions R) wh
   }
   unicode_normal s (Some p) e = unicode_settled R (extension unicode s) p (u_form p) refl ((u_decided s p).0 e) (form_is_normal u_formed p)
 
-  -- the normal form of a `t` extension, whether its subtags have parts or not
+  -- `t_subtags` gives the normal form of a `t` extension, whether its subtags `s` have parts (`o`) or not
   transform_normal : (s : List (List ℕ)) (o : Option TForm) → transform_of s ≡ o
       → IsNormalForm (ExtensionStep R) (extension transform s) (extension transform (t_subtags o s))
   transform_normal s None e = record {
@@ -172,7 +178,7 @@ module _ (R : List EntryParts) (G : IsRegistry R) (C : MeetsCoreConditions R) wh
   transform_normal s (Some p) e = transform_settled R G (extension transform s) p (t_form R C p) refl
       ((t_decided s p).0 e) (form_is_normal (t_formed R C) p)
 
-  -- the normal form of the extension of the singleton `n` and the subtags `s`
+  -- `subtags_form` gives the normal form of the extension of the singleton `n` and the subtags `s`
   normal_at : (n : ℕ) (s : List (List ℕ)) (u t : Bool) → (n == unicode) ≡ u → (n == transform) ≡ t
       → IsNormalForm (ExtensionStep R) (extension n s) (extension n (subtags_form u t s))
   normal_at n s true t a b =
@@ -215,19 +221,20 @@ module _ (R : List EntryParts) (G : IsRegistry R) (C : MeetsCoreConditions R) wh
   unfolding normal_extensions
   extensions_ordered es = sorted_reached false singleton_cmp singleton_total (map normal_extension es)
 
-  -- lists whose extensions have the same normal forms, one by one, have one normal form
+  -- lists whose extensions have the same normal forms, one by one, have the same normal form
   pub one_by_one : (es fs : List ExtensionParts) → map normal_extension es ≡ map normal_extension fs
       → normal_extensions es ≡ normal_extensions fs
   unfolding normal_extensions
   one_by_one es fs h = ap (sorted false singleton_cmp) h
 
-  -- the parts of the normal form of a `t` extension with the parts `p`: their source is the normal form of its source
+  -- the normal form of the extension `e`, which has the parts `p` of a `t` extension, has `parts`, whose source is the
+  -- normal form of the source of `p`
   pub record NormalParts (e : ExtensionParts) (p : TForm) : Type 0 where
     pub parts : TForm
     pub formed : IsTransform (normal_extension e).subtags parts
     pub source : parts.source ≡ option_map (normal_core R C) p.source
 
-  -- the normal form of a `t` extension has the parts that `NormalParts` tells
+  -- the normal form of a `t` extension with the parts `p` has parts as `NormalParts` says
   pub normal_parts : (e : ExtensionParts) (p : TForm) → e.singleton ≡ transform → IsTransform e.subtags p → NormalParts e p
   normal_parts e p s k = record {
     parts = t_form R C p;
@@ -238,7 +245,7 @@ module _ (R : List EntryParts) (G : IsRegistry R) (C : MeetsCoreConditions R) wh
     source = refl;
   }
 
-  -- t extensions that differ in sources with one normal form have one normal form
+  -- `t` extensions with the same fields, and with sources that have the same normal form, have the same normal form
   pub same_source : (e f : ExtensionParts) (p q : TForm) → e.singleton ≡ transform → f.singleton ≡ transform
       → IsTransform e.subtags p → IsTransform f.subtags q → option_map (normal_core R C) p.source
       ≡ option_map (normal_core R C) q.source → p.fields ≡ q.fields → normal_extension e ≡ normal_extension f
@@ -247,7 +254,7 @@ module _ (R : List EntryParts) (G : IsRegistry R) (C : MeetsCoreConditions R) wh
       ∙ ap₂ (λ o fs. extension transform (spell_t (with_source o fs))) s (ap (sorted false separator_cmp) n)
       ∙ sym (transform_form f q b k)
 
--- A step on an extension keeps its shape, and makes its subtags no more.
+-- A step on extensions keeps their shapes, and gives them no more subtags.
 
 -- a step inside an extension leads to what has the form of an extension (RFC 5646, 2.2.6)
 pub extension_step_shaped : (R : List EntryParts) (e f : ExtensionParts) → ExtensionStep R e f → IsExtension f
@@ -268,7 +275,7 @@ pub extension_step_singleton : (R : List EntryParts) (e f : ExtensionParts) → 
 extension_step_singleton R e f (in_unicode p q _ kept _ _ _) = kept
 extension_step_singleton R e f (in_transform p q _ kept _ _ _) = kept
 
--- a step on extensions keeps each one that the type Extension can have
+-- a step leads from extensions that the type Extension can hold to such extensions
 pub extensions_step_values : (R : List EntryParts) (es fs : List ExtensionParts) → ExtensionsStep R es fs
     → AllByRecursion IsExtensionValue es → AllByRecursion IsExtensionValue fs
 extensions_step_values R es fs (inside before e f after there result s) h =
@@ -280,7 +287,7 @@ extensions_step_values R es fs (inside before e f after there result s) h =
     subst (AllByRecursion IsExtensionValue) (sym result) (all_replaced IsExtensionValue before e f after all new)
 extensions_step_values R es fs (among s) h = all_step IsExtensionValue es fs s h
 
--- a step on extensions makes them no more
+-- a step on extensions leads to no more extensions than before
 pub extensions_step_count : (R : List EntryParts) (es fs : List ExtensionParts) → ExtensionsStep R es fs → length fs ≤ length es
 extensions_step_count R es fs (inside before e f after there result s) =
     omega (arith, length_replaced before e f after, ap length there, ap length result)

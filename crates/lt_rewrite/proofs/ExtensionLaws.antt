@@ -1,5 +1,5 @@
--- The laws of the steps on extensions: each list of extensions has one normal form, and what the settling calls answer
--- is that.
+-- The laws of the steps on extensions (`ordering_laws`): a list of extensions has exactly one normal form, and so do
+-- the parts of a `u` or a `t` extension. And lemmas for `settle_u` and `settle_extensions`, which make that form.
 use Rattle.std.proofs.Common.{◌≡◌, ℕ, ◌≤◌, ◌<◌, Bool, true, false, cond, List, [], ◌∷◌, ◌++◌, refl, sym, ap, ◌∙◌, subst}
 use Rattle.std.proofs.Common.{subst₂, ap₂, length, arith, Option, Some, None, IfSome, ◌==◌, ◌≢◌, ltb, zero, suc, get_or}
 use Rattle.std.proofs.Common.{set, take, drop}
@@ -35,32 +35,32 @@ use Rattle.lt_rewrite.proofs.PartForms.{key_total, t_formed, t_shaped, text_tota
 use Rattle.lt_rewrite.proofs.ExtensionForms.{each_rests, extension_step_singleton, extensions_formed}
 use Rattle.lt_rewrite.proofs.ExtensionForms.{extensions_step_values, from_normal, to_part}
 
--- where `form` gives the normal form, steps from each `a` lead to one normal form
+-- if `form` gives the normal form, steps from each value `a` lead to exactly one normal form
 one_form : {A : Type 0} {Step : A → A → Type 0} {form : A → A} → IsFormOf Step form → (a : A) → HasOneForm Step a
 one_form {form = form} F a = record { form = form a; normal = form_is_normal F a; only = λ b n. sym (normal_is_form F a b n) }
 
--- the parts of a `u` extension have one normal form
+-- the parts of a `u` extension have exactly one normal form
 pub unicode_has_one_form : UnicodeHasOneForm
 unicode_has_one_form = record { one = one_form u_formed; shaped = u_shaped }
 
--- under the conditions C1 to C6 the parts of a `t` extension have one normal form
+-- under the conditions C1 to C6 the parts of a `t` extension have exactly one normal form
 pub transform_has_one_form : (R : List EntryParts) → IsRegistry R → MeetsCoreConditions R → TransformHasOneForm R
 transform_has_one_form R G C = record {
   one = one_form (t_formed R C);
   shaped = t_shaped R (step_shaped R G);
 }
 
--- under the conditions C1 to C6 a list of extensions has one normal form
+-- under the conditions C1 to C6 a list of extensions has exactly one normal form
 pub extensions_have_one_form : (R : List EntryParts) → IsRegistry R → MeetsCoreConditions R → ExtensionsHaveOneForm R
 extensions_have_one_form R G C = record {
   one = one_form (extensions_formed R G C);
   shaped = extensions_step_values R;
 }
 
--- What the parts of a u extension come to, from what its attributes and keywords come to.
+-- The normal form of the parts of a `u` extension, from those of its attributes and its keywords.
 
--- the normal form `q` of the parts `p` of a `u` extension is that of the attributes, and that of the keywords without a
--- sole type `true`
+-- `q` is the normal form of the parts `p` of a `u` extension, if it has the normal form of the attributes, and that of
+-- the keywords once each has lost an only type `true`
 pub unicode_settles : (p q : UForm) → IsNormalForm (ListStep true text_cmp) p.attributes q.attributes
     → IsNormalForm (ListStep true key_cmp) (map untrue p.keywords) q.keywords → IsNormalForm UnicodeStep p q
 unicode_settles p q a k =
@@ -69,11 +69,12 @@ unicode_settles p q a k =
     (normal_is_form (sorting_is_form true key_cmp key_total) (map untrue p.keywords) q.keywords k))
     (form_is_normal u_formed p)
 
--- where a search gives an index `a` below the length `b` and None else, None means that there is none
+-- if a search gives the index `a` when it is below the length `b`, and else None, then `a` is not below `b` if it gives
+-- None
 not_found : (a b : ℕ) → cond (ltb a b) (Some a) None ≡ None → b ≤ a
 not_found a b h = grind (arith, nat_tests)
 
--- where no index of the singleton `n` is found, no extension has it
+-- if no extension with the singleton `n` is found, none has it
 pub none_there : (es : List ExtensionParts) (n : ℕ) → position (λ (e : ExtensionParts). e.singleton == n) es ≡ None
     → AllByRecursion (λ (e : ExtensionParts). e.singleton ≢ n) es
 none_there es n h =
@@ -82,23 +83,23 @@ none_there es n h =
     recursion_from_All (λ (e : ExtensionParts). e.singleton ≢ n) es
     (λ k d l. eqb-false (get_or es k d).singleton n (fails_before_first test es k d (omega arith)))
 
--- where no extension has the singleton `n`, there is none to settle
+-- if no extension has the singleton `n`, there is none with it to settle (`Settles` of None)
 pub none_rest : (R : List EntryParts) (es : List ExtensionParts) (n : ℕ)
     → AllByRecursion (λ (e : ExtensionParts). e.singleton ≢ n) es → Settles R n es None
 none_rest R es n = AllByRecursion-weaker (λ (x : ExtensionParts). x.singleton ≢ n) (λ x. x.singleton ≡ n
     → Rests (ExtensionStep R) x) (λ x a q. absurd (a q)) es
 
--- where no index of the singleton `n` is found, there is none to settle
+-- if no extension with the singleton `n` is found, there is none with it to settle (`Settles` of None)
 pub none_settles : (R : List EntryParts) (es : List ExtensionParts) (n : ℕ)
     → position (λ (e : ExtensionParts). e.singleton == n) es ≡ None → Settles R n es None
 none_settles R es n h = none_rest R es n (none_there es n h)
 
--- the extension `e` at the index `place` has the singleton `n`
+-- the index `place` is one of `es`, and the extension `e`, which is there, has the singleton `n`
 pub record FoundAt (n : ℕ) (es : List ExtensionParts) (place : ℕ) (e : ExtensionParts) : Type 0 where
   pub within : place < length es
   pub of_singleton : e.singleton ≡ n
 
--- the extension at the index that is found has the singleton
+-- if the search for the singleton `n` finds an index, the extension there has that singleton
 pub found_there : (es : List ExtensionParts) (n place : ℕ) (e : ExtensionParts)
     → position (λ (e : ExtensionParts). e.singleton == n) es ≡ Some place → e ≡ get_or es place e → FoundAt n es place e
 found_there es n place e h is =
@@ -109,7 +110,7 @@ found_there es n place e h is =
           ∙ eqb-true (get_or es place e).singleton n found.1;
     }
 
--- the extension `e` that is found and its normal form `f` are what `SettlesAt` asks for
+-- if the search for the singleton `n` finds the extension `e`, and `f` is its normal form, `SettlesAt` holds of them
 pub found_settles : (R : List EntryParts) (n : ℕ) (es : List ExtensionParts) (place : ℕ) (e f : ExtensionParts)
     → position (λ (e : ExtensionParts). e.singleton == n) es ≡ Some place → e ≡ get_or es place e
     → (e.singleton ≡ n → IsNormalForm (ExtensionStep R) e f) → SettlesAt R n es place f
@@ -121,12 +122,12 @@ found_settles R n es place e f h is normal =
 abbrev singleton_of : ExtensionParts → ℕ
 singleton_of e = e.singleton
 
--- what each element has, the one at an index has
+-- if `P` holds of each element, it holds of the element `x` at the index `i`
 pub all_index : {A : Type 0} (P : A → Type 0) (xs : List A) (i : ℕ) (x : A) → i < length xs → x ≡ get_or xs i x → AllByRecursion P xs → P x
 all_index P xs i x h e a = subst P (sym e) (All-from_recursion P xs a i x h)
 
--- where each singleton occurs once, and `f` takes the place of `e`, what `f` has, each extension of the singleton `n`
--- has
+-- if each singleton occurs once, `f` is put in the place of `e`, whose singleton is `n`, and `P` holds of `f`, then `P`
+-- holds of each extension with the singleton `n`
 placed_alone : (P : ExtensionParts → Type 0) (n : ℕ) (es : List ExtensionParts) (i : ℕ) (e f : ExtensionParts)
     → Distinct (map singleton_of es) → i < length es → e ≡ get_or es i e → e.singleton ≡ n → P f
     → AllByRecursion (λ (x : ExtensionParts). x.singleton ≡ n → P x) (set es i f)
@@ -142,8 +143,8 @@ placed_alone P n (x ∷ xs) (suc i) e f d h is s p =
     (all_unmapped (λ (m : ℕ). m ≢ x.singleton) singleton_of xs d.0) in
     (λ q. absurd (other (s ∙ sym q)), placed_alone P n xs i e f d.1 (omega arith) is s p)
 
--- where each singleton occurs once, and no step leads from the extension of `n` that is found, none leads from any of
--- `n`
+-- if each singleton occurs once, and no step leads from the extension with the singleton `n` that is found, there is
+-- none with it to settle (`Settles` of None)
 pub found_rests : (R : List EntryParts) (n : ℕ) (es : List ExtensionParts) (place : ℕ) (e : ExtensionParts)
     → Distinct (map singleton_of es) → position (λ (e : ExtensionParts). e.singleton == n) es ≡ Some place
     → e ≡ get_or es place e
@@ -158,7 +159,7 @@ found_rests R n es place e d h is rests =
 pub keeps_singleton : (R : List EntryParts) (n : ℕ) (e f : ExtensionParts) → e.singleton ≡ n → Star (ExtensionStep R) e f → f.singleton ≡ n
 keeps_singleton R n e f h s = star_keeps (λ (x : ExtensionParts). x.singleton ≡ n) (λ a b t q. extension_step_singleton R a b t ∙ q) s h
 
--- steps lead from the extensions to those with the normal form in its place
+-- steps lead from the extensions to those with the normal form, if one is given, in its place (`placed`)
 pub placed_reached : (R : List EntryParts) (n : ℕ) (es : List ExtensionParts) (o : Option (ℕ × ExtensionParts))
     → Settles R n es o → Star (ExtensionsStep R) es (placed o es)
 placed_reached R n es None s = done
@@ -185,7 +186,8 @@ placed_rests R n es None s d = s
 placed_rests R n es (Some p) s d = placed_alone (Rests (ExtensionStep R)) n es p.0 s.from p.1 d s.within s.there
     s.of_singleton s.normal.at_rest
 
--- what each extension has, and all of the singleton `n` have, each has with the normal form in its place
+-- if `P` holds of each extension in the list, and of every extension with the singleton `n`, it holds of each in the
+-- list with the normal form in its place
 pub placed_keeps : (R : List EntryParts) (P : ExtensionParts → Type 0) (n : ℕ) (es : List ExtensionParts) (o : Option
     (ℕ × ExtensionParts)) → Settles R n es o → ((x : ExtensionParts) → x.singleton ≡ n → P x) → AllByRecursion P es
     → AllByRecursion P (placed o es)
@@ -235,7 +237,7 @@ extensions_settle R es fs u t d su st n =
         (placed u es) t still (λ x q r. absurd (omega (arith, q, r))) (placed_rests R unicode es u su d))
         (placed_rests R transform (placed u es) t still (placed_distinct R unicode es u su d))
 
--- where each `t` extension has the form of one, the one at the index that is found has it
+-- if each `t` extension has the form of one, the `t` extension that is found has it
 pub form_of_transform : (es : List ExtensionParts) (place : ℕ) (e : ExtensionParts) → FoundAt transform es place e
     → e ≡ get_or es place e → AllByRecursion (λ (x : ExtensionParts). x.singleton ≡ transform → (p : TForm)
     × IsTransform x.subtags p) es → (p : TForm) × IsTransform e.subtags p

@@ -1,5 +1,6 @@
--- When a step, given by its kind, its place and the number of its record, leads on from the parts of an extension, and
--- from extensions.
+-- Lemmas for the functions that apply a step to extensions, or explain them: when a step, given by its kind, its place
+-- and the number of its record, leads on from the parts of an extension, or from extensions. An answer is true or
+-- false, as `Answers` says: whether a step leads to the value after a call.
 use Rattle.std.proofs.Common.{◌≡◌, ℕ, ◌+◌, ◌<◌, ◌≤◌, List, Some, refl, sym, ap, ◌∙◌, length, arith, suc, false, [], ◌∷◌}
 use Rattle.std.proofs.Common.{None, subst, take, drop, ◌⊎◌, inl, inr, Bool, true, ◌≢◌, Ordering, get_or, set}
 use Rattle.std.specs.Prelude.{flat_map, codes}
@@ -29,7 +30,7 @@ use Rattle.lt_rewrite.proofs.PartForms.{t_shaped, u_shaped}
 use Rattle.lt_rewrite.specs.declared.steps.StepKind.TheVariants as steps
 use Rattle.lt_rewrite.proofs.CoreLeading.{core_low, core_rank, same_step}
 
--- Steps on a list whose steps are swaps alone, as `SwapsBy` and as a `ListStep` with its name.
+-- Steps on a list in which parts may only be swapped: as `SwapsBy`, and as a `ListStep` with its name.
 module _ {A : Type 0} (cmp : A → A → Ordering) (swap : StepKind) (spell : A → List (List ℕ)) (start : ℕ)
     (xs ys : List A) (step : Step) where
   -- a swap by a step of the kind `swap` is a step on the list, and this is its name
@@ -50,7 +51,7 @@ module _ {A : Type 0} (cmp : A → A → Ordering) (swap : StepKind) (spell : A 
       })
   as_swap (by_drop before a between b after o s) h = absurd cc
 
--- What a step is on the parts of a u extension.
+-- Which steps there are on the parts of a `u` extension.
 
 -- the subtags of an attribute: itself
 abbrev pub one_subtag : List ℕ → List (List ℕ)
@@ -81,8 +82,8 @@ same_kind swap_keywords swap_keywords h = refl
 same_kind drop_true drop_true h = refl
 same_kind j k h = absurd (omega (arith, h))
 
--- a step of a kind, by its name, leads from the parts `p` of a `u` extension, whose singleton is at the place `start`,
--- to `q`
+-- the step, which is of the given kind, leads from the parts `p` of a `u` extension, whose singleton is at the place
+-- `start`, to `q`, as that kind of step does
 abbrev pub Says : UnicodeKind → ℕ → UForm → Step → UForm → Type 0
 Says drop_attribute start p step q =
     DropsBy text_cmp one_subtag steps.DropAttribute start p.attributes step q.attributes × (q.keywords ≡ p.keywords)
@@ -96,7 +97,7 @@ Says swap_keywords start p step q =
     × (q.attributes ≡ p.attributes)
 Says drop_true start p step q = DropsTrueBy (start + length p.attributes) p.keywords step q.keywords × (q.attributes ≡ p.attributes)
 
--- a step on the parts of a `u` extension is of one of the kinds
+-- a step on the parts of a `u` extension, by its name, is of one of the kinds
 says : (start : ℕ) (p q : UForm) (s : UnicodeStep p q) → (k : UnicodeKind) × Says k start p (unicode_label start s) q
 says start p q (on_attributes (by_drop before a between b after o s) e) = (
   drop_attribute,
@@ -176,11 +177,12 @@ says start p q (on_types e before a after s) = (
   ),
 )
 
--- the ranks of the steps in a `u` extension, which are the same among the steps on extensions
+-- the step has a rank of the steps in a `u` extension, and the same rank among the steps on extensions
 abbrev pub RanksU : Step → Type 0
 RanksU step = (9 ≤ kind_rank step) × (kind_rank step ≤ 13) × (extension_rank step ≡ kind_rank step)
 
--- the ranks of the steps in a `t` extension: among the steps on extensions those on its source are 13 more
+-- the step has a rank of the steps in a `t` extension; among the steps on extensions the rank of one on its source is
+-- 13 more
 abbrev pub RanksT : Step → Type 0
 RanksT step = ((kind_rank step ≤ 6) × (13 < extension_rank step) × (extension_rank step ≡ kind_rank step + 13))
     ⊎ ((kind_rank step ≡ 20) × (extension_rank step ≡ 20))
@@ -194,7 +196,7 @@ module _ (start : ℕ) (p : UForm) (step : Step) (q : UForm) where
   pub said : UnicodeLeads start p step q → (k : UnicodeKind) × Says k start p step q
   said (s, h) = subst (λ x. (k : UnicodeKind) × Says k start p x q) h (says start p q s)
 
-  -- a step of the kind `k` leads on from the parts `p` of a `u` extension
+  -- what leads from `p` to `q` as a step of the kind `k` does is a step on the parts of a `u` extension
   pub led : (k : UnicodeKind) → Says k start p step q → UnicodeLeads start p step q
   led drop_attribute (s, e) = (
     on_attributes (by_drop s.leads.before s.leads.first s.leads.between s.leads.second s.leads.after refl
@@ -224,7 +226,7 @@ module _ (start : ℕ) (p : UForm) (step : Step) (q : UForm) where
   in_u drop_attribute (s, e) = omega (arith, ap rank_of s.of_kind, ap order s.of_kind, s.leads.at)
   in_u k (s, e) = omega (arith, ap rank_of s.of_kind, ap order s.of_kind, s.leads.at)
 
-  -- a step in a `u` extension has one of the ranks of these, and a place after the singleton
+  -- a step on the parts of a `u` extension has a rank of such steps, and a place after the singleton
   pub u_ranks : UnicodeLeads start p step q → (start < step.place) × RanksU step
   u_ranks l = let s = said l in (in_u s.0 s.1).1
 
@@ -232,13 +234,15 @@ module _ (start : ℕ) (p : UForm) (step : Step) (q : UForm) where
   pub as_kind : (k : UnicodeKind) → kind_rank step ≡ u_rank k → UnicodeLeads start p step q → Says k start p step q
   as_kind k r l = let s = said l in subst (λ j. Says j start p step q) (same_kind s.0 k (sym (in_u s.0 s.1).0 ∙ r)) s.1
 
--- an answer whether `L` leads to `x` is one whether `M` leads to `y`, where each leads on if the other does
+-- an answer `r` about `L` and `x` is one about `M` and `y`, if `M` holds of `y` whenever `L` holds of `x`, and `L`
+-- holds of some value whenever `M` does
 pub answers_by : {A B : Type 0} (L : A → Type 0) (M : B → Type 0) (x : A) (y : B) → (L x → M y)
     → ((z : B) → M z → (w : A) × L w) → (r : Bool) → Answers L x r → Answers M y r
 answers_by L M x y forth back true h = forth h
 answers_by L M x y forth back false h = λ z m. h (back z m).0 (back z m).1
 
--- an answer about one list of the parts is one about the parts, which `g` makes of the list
+-- an answer `r` about one list of the parts of a `u` extension is one about the parts, which `g` makes of the list, if
+-- a step of the kind `k` on the parts is a step on that list
 pub u_answers : {A : Type 0} (start : ℕ) (p : UForm) (step : Step) (k : UnicodeKind) (L : A → Type 0) (g : A → UForm)
     → kind_rank step ≡ u_rank k → ((a : A) → L a → Says k start p step (g a))
     → ((q : UForm) → Says k start p step q → (a : A) × L a) → (a : A) (r : Bool) → Answers L a r
@@ -247,7 +251,7 @@ u_answers start p step k L g rank on off a r h =
     answers_by L (UnicodeLeads start p step) a (g a) (λ s. led start p step (g a) k (on a s))
     (λ q l. off q (as_kind start p step q k rank l)) r h
 
--- DropTrue steps, whose type `true` is at `place`, on keywords that begin after `start` subtags.
+-- DropTrue steps, which drop a type `true` at `place`, on keywords that begin after `start` subtags.
 module _ (start place : ℕ) (ks : List KeywordParts) where
   -- a DropTrue step is at the keyword whose key is one place to the left; its only type is `true`
   pub true_step : (ls : List KeywordParts) → TrueLeads start place ks ls
@@ -262,7 +266,7 @@ module _ (start place : ℕ) (ks : List KeywordParts) where
         holds = λ d. ap (λ (z : KeywordParts). z.types) (cut_at t.before t.keyword t.after ks d t.drops.there) ∙ t.drops.sole;
       }
 
-  -- a keyword whose only type is `true` has a DropTrue step
+  -- a keyword whose only type, at `place`, is `true` has a DropTrue step
   pub true_led : (i : ℕ) (k : KeywordParts) → i < length ks → IsPlaceOf spell_keyword (start + 1) ks i place
       → k ≡ get_or ks i k → k.types ≡ codes "true" ∷ [] → TrueLeads start place ks (set ks i (record k { types = [] }))
   true_led i k h p e sole =
@@ -274,7 +278,7 @@ module _ (start place : ℕ) (ks : List KeywordParts) where
         at = omega (arith, p);
       }
 
--- What a step is on the parts of a t extension.
+-- Which steps there are on the parts of a `t` extension.
 
 module _ (R : List EntryParts) (start : ℕ) (p : TForm) (step : Step) (q : TForm) where
   -- a SwapFields step on the parts of a `t` extension is one on its fields, and keeps the source
@@ -288,18 +292,18 @@ module _ (R : List EntryParts) (start : ℕ) (p : TForm) (step : Step) (q : TFor
     e,
   )
 
-  -- a step on the parts of a `t` extension that is no SwapFields is one on its source
+  -- a step of another kind than SwapFields on the parts of a `t` extension is one on its source `c`
   to_source : step.kind ≢ steps.SwapFields → (c : CoreParts) → p.source ≡ Some c → TransformLeads R start p step q
       → (d : CoreParts) × CoreLeads R start c step d
   to_source k c e (on_source b d from _ s _, h) = (d, subst (λ x. CoreLeads R start x step d) (same_Some b c (sym from ∙ e)) (s, h))
   to_source k c e (on_fields f s, h) = absurd (k (as_swap separator_cmp steps.SwapFields spell_field _ p.fields q.fields step s h).of_kind)
 
-  -- where there is no source, no step but SwapFields leads on
+  -- if there is no source, no step of another kind than SwapFields leads on
   pub no_source : step.kind ≢ steps.SwapFields → p.source ≡ None → TransformLeads R start p step q → ⊥
   no_source k e (on_source b d from _ _ _, h) = none-some b (sym e ∙ from)
   no_source k e (on_fields f s, h) = k (as_swap separator_cmp steps.SwapFields spell_field _ p.fields q.fields step s h).of_kind
 
-  -- a step in a `t` extension has one of the ranks of these, and a place after the singleton
+  -- a step on the parts of a `t` extension has a rank of such steps, and a place after the singleton
   pub in_t : TransformLeads R start p step q → (start < step.place) × RanksT step
   in_t (on_source c d _ _ s _, h) = (
     omega (arith, core_low R start c d s, ap (λ (x : Step). x.place) h),
@@ -310,7 +314,7 @@ module _ (R : List EntryParts) (start : ℕ) (p : TForm) (step : Step) (q : TFor
       (omega (arith, a.leads.at), inr (ap rank_of a.of_kind, ap order a.of_kind))
 
 module _ (R : List EntryParts) (start : ℕ) (p : TForm) (step : Step) where
-  -- an answer about a swap of fields is one about a SwapFields step on the parts
+  -- an answer `r` about a swap of fields is one about a SwapFields step on the parts
   pub fields_answers : step.kind ≡ steps.SwapFields → step.number ≡ 0 → (xs : List FieldParts) (r : Bool)
       → Answers (SwapLeads separator_cmp spell_field (start + length (spell_source p.source)) step.place p.fields) xs r
       → Answers (TransformLeads R start p step) (record { source = p.source; fields = xs }) r
@@ -321,7 +325,7 @@ module _ (R : List EntryParts) (start : ℕ) (p : TForm) (step : Step) where
       xs step (record { of_kind = k; unnumbered = n; leads = s }) in (on_fields refl l.0, l.1))
       (λ q l. (q.fields, (to_fields R start p step q k l).0.leads)) r h
 
-  -- an answer about a step on the source is one about a step on the parts
+  -- an answer `r` about a step of another kind than SwapFields on the source is one about a step on the parts
   pub source_answers : step.kind ≢ steps.SwapFields → (c : CoreParts) → p.source ≡ Some c → (d : CoreParts) (r : Bool)
       → Answers (CoreLeads R start c step) d r
       → Answers (TransformLeads R start p step) (record { source = Some d; fields = p.fields }) r
@@ -330,7 +334,7 @@ module _ (R : List EntryParts) (start : ℕ) (p : TForm) (step : Step) where
       (λ l. (on_source c d e refl l.0 refl, l.1))
       (λ q l. to_source R start p step q k c e l) r h
 
--- What a step is on extensions.
+-- Which steps there are on extensions.
 
 -- the `u` extension that these parts spell
 abbrev pub of_u : UForm → ExtensionParts
@@ -354,7 +358,7 @@ module _ (R : List EntryParts) (start : ℕ) (e : ExtensionParts) (step : Step) 
       (in_transform p q t (sym t) from (record { shaped = t_shaped R (step_shaped R G) p q l.0 from.shaped; spelled = refl }) l.0, l.1)
 
   module _ (f : ExtensionParts) where
-    -- a step inside a `u` extension is one on its parts
+    -- a step inside a `u` extension with the parts `p` is one on these parts
     pub inside_u : (p : UForm) → e.singleton ≡ unicode → IsUnicode e.subtags p → ExtensionLeads R start e step f
         → (q : UForm) × UnicodeLeads start p step q × (f ≡ of_u q)
     inside_u p u from (in_unicode b q is_u kept begins to s, h) = (
@@ -364,7 +368,7 @@ module _ (R : List EntryParts) (start : ℕ) (e : ExtensionParts) (step : Step) 
     )
     inside_u p u from (in_transform b q is_t _ _ _ _, h) = absurd (omega (arith, u, is_t))
 
-    -- a step inside a `t` extension is one on its parts
+    -- a step inside a `t` extension with the parts `p` is one on these parts
     pub inside_t : (p : TForm) → e.singleton ≡ transform → IsTransform e.subtags p → ExtensionLeads R start e step f
         → (q : TForm) × TransformLeads R start p step q × (f ≡ of_t q)
     inside_t p t from (in_transform b q is_t kept begins to s, h) = (
@@ -374,7 +378,8 @@ module _ (R : List EntryParts) (start : ℕ) (e : ExtensionParts) (step : Step) 
     )
     inside_t p t from (in_unicode b q is_u _ _ _ _, h) = absurd (omega (arith, t, is_u))
 
-    -- the place of a step inside an extension is after the singleton, and its rank is one of the extension's singleton
+    -- a step inside an extension has a place after the singleton, and a rank of the steps in a `u` or a `t` extension,
+    -- whichever this is
     pub told : ExtensionLeads R start e step f → (start < step.place)
         × (((e.singleton ≡ unicode) × RanksU step) ⊎ ((e.singleton ≡ transform) × RanksT step))
     told (in_unicode p q is_u _ _ _ s, h) = let r = u_ranks start p step q (s, h) in (r.0, inl (is_u, r.1))
@@ -389,7 +394,7 @@ module _ (R : List EntryParts) (start : ℕ) (es : List ExtensionParts) (step : 
       let s : ExtensionLeads R (start + length (spell_extensions (take i es)) + 1) e step f = l f in
       (inside (take i es) e f (drop (suc i) es) (round es i e h (get_or_default es i f e h)) (set_split es i f h) s.0, s.1)
 
-  -- a step of another kind than SwapExtensions that leads on in no extension leads on nowhere
+  -- a step of another kind than SwapExtensions that leads on inside no extension leads nowhere
   pub none_inside : step.kind ≢ steps.SwapExtensions
       → ((i : ℕ) (f : ExtensionParts) → i < length es → LeadsAt R start es step i f → ⊥) → (fs : List ExtensionParts)
       → ExtensionsLeads R start es step fs → ⊥
@@ -403,14 +408,14 @@ module _ (R : List EntryParts) (start : ℕ) (es : List ExtensionParts) (step : 
       (sym (cut_at before e after es d there)) (s, h)))
   none_inside k none fs (among s, h) = k (as_swap singleton_cmp steps.SwapExtensions spell_extension start es fs step s h).of_kind
 
-  -- a SwapExtensions step is one on the order of the extensions, since none inside an extension has its rank
+  -- a SwapExtensions step on extensions swaps two of them, since no step inside an extension has its rank
   pub to_swaps : step.kind ≡ steps.SwapExtensions → (fs : List ExtensionParts) → ExtensionsLeads R start es step fs
       → SwapsBy singleton_cmp spell_extension steps.SwapExtensions start es step fs
   to_swaps k fs (inside before e f after there result s, h) = absurd
       (omega (arith, told R (start + length (spell_extensions before) + 1) e step f (s, h), ap rank_of k))
   to_swaps k fs (among s, h) = as_swap singleton_cmp steps.SwapExtensions spell_extension start es fs step s h
 
-  -- an answer about a swap of extensions is one about a SwapExtensions step
+  -- an answer `r` about a swap of extensions is one about a SwapExtensions step
   pub swaps_answers : step.kind ≡ steps.SwapExtensions → step.number ≡ 0 → (fs : List ExtensionParts) (r : Bool)
       → Answers (SwapLeads singleton_cmp spell_extension start step.place es) fs r
       → Answers (ExtensionsLeads R start es step) fs r
@@ -420,7 +425,7 @@ module _ (R : List EntryParts) (start : ℕ) (es : List ExtensionParts) (step : 
       (record { of_kind = k; unnumbered = n; leads = s }) in (among l.0, l.1))
       (λ gs l. (gs, (to_swaps k gs l).leads)) r h
 
-  -- the place of a step on extensions is after the `start` subtags before them, and its rank is not 7, that of Whole
+  -- a step on extensions has a place after the `start` subtags before them, and is no Whole step, whose rank is 7
   pub behind : (fs : List ExtensionParts) → ExtensionsLeads R start es step fs → (start < step.place) × (kind_rank step ≢ 7)
   behind fs (inside before e f after there result s, h) = omega
       (arith, told R (start + length (spell_extensions before) + 1) e step f (s, h))
@@ -428,7 +433,8 @@ module _ (R : List EntryParts) (start : ℕ) (es : List ExtensionParts) (step : 
       let a = as_swap singleton_cmp steps.SwapExtensions spell_extension start es fs step s h in
       omega (arith, a.leads.at, ap rank_of a.of_kind)
 
--- a list cut twice at one extension: a step on the extension of the one cut is one on that of the other
+-- if a list is cut twice at the same extension, a step inside the extension of one cut is a step inside that of the
+-- other
 pub moved : (R : List EntryParts) (start : ℕ) {before before' after after' : List ExtensionParts} {e e' f
     : ExtensionParts} {step : Step} → SameCut before before' e e' after after'
     → ExtensionLeads R (start + length (spell_extensions before') + 1) e' step f

@@ -1,5 +1,6 @@
--- Runs of first steps in an extension, among others. What is shown: the exchanges of extensions, the run in the `u`
--- extension and the one in the `t` extension are together one run of first steps on the list, after which none is left.
+-- Lemmas for `explain_extensions`. A run is a list of steps, each the first of those that lead on. The exchanges of
+-- extensions, the run in the `u` extension and the run in the `t` extension are together one run on the list of
+-- extensions, after which no step leads on.
 use Rattle.std.proofs.Common.{◌≡◌, ◌≢◌, ℕ, suc, ◌+◌, ◌<◌, ◌≤◌, inr, List, [], ◌∷◌, ◌++◌, refl, sym, ap, ◌∙◌, subst}
 use Rattle.std.proofs.Common.{length, get_or, set, take, drop, arith, inl, false, Option, Some, map, None}
 use Rattle.std.proofs.lemmas.List.{map-append, set_split}
@@ -38,26 +39,27 @@ use Rattle.lt_rewrite.proofs.NormalForms.{star_keeps}
 use Rattle.lt_rewrite.specs.declared.steps.StepKind.TheVariants as steps
 use Rattle.lt_rewrite.proofs.PartRuns.{run_star}
 
--- Runs on the parts of an extension are runs on it.
+-- Runs on the parts of an extension are runs inside the extension.
 
--- where the ranks of two steps are in one order in an extension and among extensions, no later in the one is no later
--- in the other
+-- if the ranks of two steps inside an extension are in the same order as their ranks among the steps on extensions, a
+-- step that comes no later than the other inside comes no later among extensions
 later : (step other : Step) → (kind_rank step < kind_rank other → extension_rank step < extension_rank other)
     × (kind_rank step ≡ kind_rank other → extension_rank step ≡ extension_rank other) → IsNoLater kind_rank step other
     → IsNoLater extension_rank step other
 later step other f (inl h) = inl (f.0 h)
 later step other f (inr h) = inr (f.1 h.0, h.1)
 
--- Runs on parts of the type `F` as runs in the extension that `of` makes of them. `Is` holds of the parts, and steps
--- keep it (`keeps`). Each step on the parts is one in the extension and the other way round (`into`, `out`), and the
--- order of steps is the same (`ordered`).
+-- Runs on parts of the type `F` as runs inside the extension that `of` makes of them. `Is` holds of the parts, and
+-- steps keep it (`keeps`). Each step on the parts is one inside the extension and the other way round (`into`, `out`),
+-- and the order of steps is the same (`ordered`).
 module _ {F : Type 0} (R : List EntryParts) (k : ℕ) (Leads : F → Step → F → Type 0) (of : F → ExtensionParts) (Is : F → Type 0)
     (keeps : (p q : F) (step : Step) → Is p → Leads p step q → Is q)
     (into : (p q : F) (step : Step) → Is p → Leads p step q → ExtensionLeads R k (of p) step (of q))
     (out : (p : F) (step : Step) (f : ExtensionParts) → Is p → ExtensionLeads R k (of p) step f → (q : F) × Leads p step q × (f ≡ of q))
     (ordered : (p q r : F) (step other : Step) → Leads p step q → Leads p other r → IsNoLater kind_rank step other
     → IsNoLater extension_rank step other) where
-  -- a run from the parts `p` of `e` to parts `q` from which no step leads is one in the extension, to its normal form
+  -- a run from the parts `p` of the extension `e` to parts `q` from which no step leads is a run inside the extension,
+  -- to its normal form
   lifted_in : (p q : F) (e : ExtensionParts) (old new : List Step) → of p ≡ e → Is p
       → Adds Leads (λ _ step. kind_rank step) p q old new → NoneLeads (Leads q)
       → IsNormalForm (ExtensionStep R) e (of q)
@@ -83,8 +85,8 @@ module _ {F : Type 0} (R : List EntryParts) (k : ℕ) (Leads : F → Step → F 
         l.1,
       )
 
--- a run on the parts of the `u` extension at the index `i`, to parts from which no step leads, settles it, and its
--- steps are added
+-- if a run on the parts of the `u` extension at the index `i` leads to parts from which no step leads, and its steps
+-- are added, `ExplainsAt` holds of the extension that these parts spell
 pub u_explained : (R : List EntryParts) (start : ℕ) {es : List ExtensionParts} {i : ℕ} {e : ExtensionParts} {p q
     : UForm} {old new : List Step} → FoundAt unicode es i e → e ≡ get_or es i e → IsUnicode e.subtags p
     → AddsOnUnicode (start + length (spell_extensions (take i es)) + 1) p q old new
@@ -100,8 +102,8 @@ u_explained R start {es = es} {i = i} {e = e} {p = p} {q = q} {old = old} {new =
     p q e old new (λ j. record { singleton = sym found.of_singleton j; subtags = from.spelled j }) from.shaped a none in
     record { settles = record { within = found.within; from = e; there = is; of_singleton = found.of_singleton; normal = l.0 }; adds = l.1 }
 
--- a run on the parts of the `t` extension at the index `i`, to parts from which no step leads, settles it, and its
--- steps are added
+-- if a run on the parts of the `t` extension at the index `i` leads to parts from which no step leads, and its steps
+-- are added, `ExplainsAt` holds of the extension that these parts spell
 pub t_explained : (R : List EntryParts) → IsRegistry R
     → (start : ℕ) {es : List ExtensionParts} {i : ℕ} {e : ExtensionParts} {p q : TForm} {old new : List Step}
     → FoundAt transform es i e → e ≡ get_or es i e → IsTransform e.subtags p
@@ -122,7 +124,7 @@ t_explained R G start {es = es} {i = i} {e = e} {p = p} {q = q} {old = old} {new
 abbrev pub singleton_of : ExtensionParts → ℕ
 singleton_of e = e.singleton
 
--- whether extensions are in order depends on their singletons alone
+-- extensions are in order if others with the same singletons are
 rising_same : (es fs : List ExtensionParts) → map singleton_of es ≡ map singleton_of fs → IsRising singleton_cmp es
     → IsRising singleton_cmp fs
 rising_same [] [] e h = tt
@@ -133,22 +135,22 @@ rising_same (a ∷ b ∷ es) (c ∷ d ∷ fs) e h =
     ((λ l. h.0 ((λ i. nat_cmp (y i) (x i)) ∙ l)), rising_same (b ∷ es) (d ∷ fs) (others_same _ _ _ _ e) h.1)
 rising_same s t e h = absurd cc
 
--- extensions in order have no step on their order
+-- no step on their order leads from extensions that are in order
 ordered_rests : (es fs : List ExtensionParts) → IsRising singleton_cmp es → ListStep false singleton_cmp es fs → ⊥
 ordered_rests es fs h (by_drop before a between b after o s) = absurd cc
 ordered_rests es fs h (by_swap before a b after s) = rising_swaps singleton_cmp h s
 
--- each step in the extension has a rank above `most` among the steps on extensions
+-- each step inside the extension has a rank above the given one among the steps on extensions
 abbrev pub IsBehind : List EntryParts → ℕ → ExtensionParts → Type 0
 IsBehind R most e = (k : ℕ) (step : Step) (f : ExtensionParts) → ExtensionLeads R k e step f → most < extension_rank step
 
--- The first step in the one extension of the singleton `n`, whose steps have ranks up to `most` (`own`), is the first
--- on all extensions, if these are in order and steps in the others have higher ranks.
+-- The first step inside the only extension with the singleton `n`, whose steps have ranks up to `most` (`own`), is the
+-- first on all extensions, if these are in order, and steps inside the others have higher ranks.
 module _ (R : List EntryParts) (start n most : ℕ) (own : (k : ℕ) (e : ExtensionParts) (step : Step) (f : ExtensionParts)
     → ExtensionLeads R k e step f → e.singleton ≡ n → extension_rank step ≤ most) (before after : List ExtensionParts)
   where
-    -- `e`, between `before` and `after`, is the one extension with the singleton `n`; the extensions are in order, and
-    -- steps in the others come after rank `most`
+    -- `e`, between `before` and `after`, is the only extension with the singleton `n`; the extensions are in order, and
+    -- steps inside the others have ranks above `most`
     pub record Leading (e : ExtensionParts) : Type 0 where
       pub singleton : e.singleton ≡ n
       pub distinct : Distinct (map singleton_of (before ++ e ∷ after))
@@ -159,7 +161,7 @@ module _ (R : List EntryParts) (start n most : ℕ) (own : (k : ℕ) (e : Extens
     abbrev here : ℕ
     here = start + length (spell_extensions before) + 1
 
-    -- a step in the extension keeps what `Leading` tells
+    -- if `Leading` holds of an extension, it holds after a step inside it
     leading_step : (e f : ExtensionParts) → ExtensionStep R e f → Leading e → Leading f
     leading_step e f s h =
         let same : f.singleton ≡ e.singleton = extension_step_singleton R e f s in
@@ -175,7 +177,7 @@ module _ (R : List EntryParts) (start n most : ℕ) (own : (k : ℕ) (e : Extens
               (λ ne. absurd (ne (same ∙ h.singleton)));
         }
 
-    -- the first step in the extension comes no later than any step on the extensions
+    -- the first step inside the extension comes no later than any step on the extensions
     none_before : (e f : ExtensionParts) (step : Step) → Leading e
         → IsFirst (ExtensionLeads R here e) extension_rank step f → (other : Step) (gs : List ExtensionParts)
         → ExtensionsLeads R start (before ++ e ∷ after) other gs → IsNoLater extension_rank step other
@@ -195,7 +197,7 @@ module _ (R : List EntryParts) (start n most : ℕ) (own : (k : ℕ) (e : Extens
               ))
         ]
 
-    -- a run in the one extension of the singleton `n` is a run on the extensions
+    -- a run inside the only extension with the singleton `n` is a run on the extensions
     pub adds_among : (e f : ExtensionParts) (old new : List Step) → Leading e
         → Adds (ExtensionLeads R (start + length (spell_extensions before) + 1)) (λ _ step. extension_rank
         step) e f old new → AddsOnExtensions R start (before ++ e ∷ after) (before ++ f ∷ after) old new
@@ -207,9 +209,10 @@ module _ (R : List EntryParts) (start n most : ℕ) (own : (k : ℕ) (e : Extens
           record { leads = (inside before x y after refl refl i.leads.0, i.leads.1); first = none_before x y step h i },
         )) e f old new h a).1
 
--- The steps on extensions, phase by phase: exchanges, those in u, those in t.
+-- The steps on extensions in three phases: exchanges, steps inside the `u` extension, and those inside the `t`
+-- extension.
 
--- the first extensions have no more subtags than all
+-- the extensions before an index have no more subtags than all extensions
 pub few_before : (i : ℕ) (es : List ExtensionParts) → length (spell_extensions (take i es)) ≤ length (spell_extensions es)
 few_before i es = front_few spell_extension es i
 
@@ -224,12 +227,12 @@ pub record IsKept (start : ℕ) (es : List ExtensionParts) : Type 0 where
   pub transforms : AllByRecursion HasForm es
   pub few : start + length (spell_extensions es) ≤ 1100000
 
--- a list without repeats stays so where two neighbours change places
+-- a list without repeats has none after two neighbours change places
 distinct_swapped : (xs : List ℕ) (m n : ℕ) (ys : List ℕ) → Distinct (xs ++ m ∷ n ∷ ys) → Distinct (xs ++ n ∷ m ∷ ys)
 distinct_swapped [] m n ys d = ((λ e. d.0.0 (sym e), d.1.0), (d.0.1, d.1.1))
 distinct_swapped (x ∷ xs) m n ys d = (all_swapped (λ y. y ≢ x) xs m n ys d.0, distinct_swapped xs m n ys d.1)
 
--- singletons that differ still do after a step on the order of the extensions
+-- if the singletons of extensions differ, they do so after a step on the order of the extensions
 distinct_step : (es fs : List ExtensionParts) → ListStep false singleton_cmp es fs → Distinct (map singleton_of es)
     → Distinct (map singleton_of fs)
 distinct_step es fs (by_swap before a b after s) d =
@@ -238,7 +241,7 @@ distinct_step es fs (by_swap before a b after s) d =
     (subst Distinct (ap (map singleton_of) s.there ∙ map-append singleton_of before (a ∷ b ∷ after)) d))
 distinct_step es fs (by_drop before a between b after o s) d = absurd cc
 
--- a SwapExtensions step leads from one list of extensions, which begins after the given number of subtags, to another
+-- the SwapExtensions step leads from one list of extensions, which begins after the given number of subtags, to another
 abbrev pub Swapping : ℕ → List ExtensionParts → Step → List ExtensionParts → Type 0
 Swapping = SwapsBy singleton_cmp spell_extension steps.SwapExtensions
 
@@ -259,7 +262,7 @@ module _ (R : List EntryParts) (start : ℕ) where
       let l = as_swap singleton_cmp steps.SwapExtensions spell_extension start es gs other s x in
       inr (ap order h.leads.of_kind ∙ sym (ap order l.of_kind), omega (arith, h.first other gs l))
 
-  -- a run of exchanges, until none leads on, gives what `Swapped` tells
+  -- after a run of exchanges to extensions `fs` from which none leads on, `Swapped` holds
   pub swapped : {es fs : List ExtensionParts} {old new : List Step} → IsKept start es
       → Adds (Swapping start) (λ _ _. 0) es fs old new → NoneLeads (Swapping start fs) → Swapped R start es fs old new
   swapped {es = es} {fs = fs} {old = old} {new = new} k a none =
@@ -276,13 +279,13 @@ module _ (R : List EntryParts) (start : ℕ) where
       )) es fs old new k a in
       record { kept = lift.0; ordered = rising_at_rest none; adds = lift.1 }
 
--- what `Explains` tells of an extension with the singleton `n`, `Settles` tells of it without the steps
+-- if `Explains` holds of an answer about the singleton `n`, `Settles` does, which does not speak of the steps
 pub settles_of : (R : List EntryParts) (n start : ℕ) (es : List ExtensionParts) (o : Option (ℕ × ExtensionParts)) (old
     new : List Step) → Explains R n start es o old new → Settles R n es o
 settles_of R n start es None old new h = none_rest R es n h.0
 settles_of R n start es (Some p) old new h = h.settles
 
--- with the normal form in its place the extensions have the same singletons
+-- with the normal form, if one is given, in its place (`placed`) the extensions have the same singletons
 placed_singletons : (R : List EntryParts) (n : ℕ) (es : List ExtensionParts) (o : Option (ℕ × ExtensionParts))
     → Settles R n es o → map singleton_of es ≡ map singleton_of (placed o es)
 placed_singletons R n es None s = refl
@@ -290,8 +293,8 @@ placed_singletons R n es (Some p) s =
     sym (map-set_same singleton_of es p.0 p.1 s.from (keeps_singleton R n s.from p.1 s.of_singleton s.normal.reached
     ∙ sym s.of_singleton ∙ ap singleton_of s.there))
 
--- the steps in the extension of the singleton `n`, added to others, are a run on the extensions, if steps in others
--- come after rank `most`
+-- the steps inside the extension with the singleton `n` that are added are a run on the extensions, if these are in
+-- order, the singletons differ, and steps inside the others have ranks above `most`
 adds_placed : (R : List EntryParts) (start n most : ℕ)
     → ((k : ℕ) (e : ExtensionParts) (step : Step) (f : ExtensionParts) → ExtensionLeads R k e step f → e.singleton ≡ n
     → extension_rank step ≤ most) → (es : List ExtensionParts) (o : Option (ℕ × ExtensionParts)) (old new : List Step)
@@ -313,7 +316,7 @@ adds_placed R start n most own es (Some p) old new h d r b =
     (subst (λ l. AddsOnExtensions R start (take i es ++ e ∷ drop (suc i) es) l old new) (sym (set_split es i p.1 h.settles.within))
     (adds_among R start n most own (take i es) (drop (suc i) es) e p.1 old new leading h.adds))
 
--- a step on extensions makes their subtags no more
+-- a step on extensions gives them no more subtags
 few_step : (R : List EntryParts) (es fs : List ExtensionParts) → ExtensionsStep R es fs
     → length (spell_extensions fs) ≤ length (spell_extensions es)
 few_step R es fs (inside before e f after there result s) =
@@ -331,7 +334,7 @@ pub record UPlaced (R : List EntryParts) (start : ℕ) (es fs : List ExtensionPa
 
 module _ (R : List EntryParts) (start : ℕ) {es fs gs hs : List ExtensionParts} (o : Option (ℕ × ExtensionParts))
     {old new : List Step} (newer : List Step) where
-  -- the phase of the `u` extension, after that of exchanges
+  -- after the phase of exchanges and that of the `u` extension, `UPlaced` holds
   pub after_u : Swapped R start es fs old new → gs ≡ fs → Explains R unicode start gs o new newer → hs ≡ placed o fs
       → UPlaced R start es hs old newer
   after_u m same h is =
@@ -356,7 +359,8 @@ module _ (R : List EntryParts) (start : ℕ) {es fs gs hs : List ExtensionParts}
             (λ e _ _ ne k step f l. omega (arith, told R k e step f l, ne)) fs k.transforms k.transforms));
       })
 
-  -- the phase of the `t` extension, after that of the `u` extension: no step leads on
+  -- after the phase of the `t` extension, which follows that of the `u` extension, the steps of all phases are one run
+  -- on the extensions, and no step leads on
   pub after_t : UPlaced R start es fs old new → gs ≡ fs → Explains R transform start gs o new newer → hs ≡ placed o fs
       → AddsOnExtensions R start es hs old newer × NoneLeads (ExtensionsLeads R start hs)
   after_t m same h is =

@@ -1,4 +1,6 @@
--- What the forms of entries say of names and values: what is registered, and each value, has the form of its kind.
+-- What the forms of entries (`IsRegistry`) and the conditions C1 to C6 (`MeetsCoreConditions`) say of values: each
+-- value has the form of its kind, and values and the replacements of extlangs are registered. So a core step keeps the
+-- form of a core.
 use Rattle.std.proofs.Common.{◌≡◌, ℕ, ◌⊎◌, inl, inr, true, false, ◌&&◌, List, Option, Some, None, refl, sym, ap, ◌∙◌}
 use Rattle.std.proofs.Common.{subst, length, arith, IfSome, Bor}
 use Rattle.std.specs.Prelude.{nat_le, is_some, unwrap_or}
@@ -26,12 +28,12 @@ pub registered_entry : (R : List EntryParts) (k : Kind) (s : List ℕ) → is_re
 registered_entry R k s h =
     (elim (entry R k s) as (λ o. is_some o ≡ true → (e : EntryParts) × (o ≡ Some e)) [ None ↦ λ e. cc | Some a ↦ λ e. (a, refl) ]) h
 
--- one subtag as a value that fits a kind has the form of the values of the kind
+-- if a value fits a kind, and is one subtag `v`, then `v` has the form of the values of the kind
 pub value_form_at : (k : Kind) (o : Option EntryValue) (v : List ℕ) → IfSome o (FitsValue k) → one_of o ≡ Some v → has_value_form k v ≡ true
 value_form_at k (Some (values.One s)) v h e = let same : s ≡ v = cc in subst (λ x. has_value_form k x ≡ true) same h
 value_form_at k s v h e = cc
 
--- a value has the form of its kind
+-- a preferred value of a subtag has the form of the values of the subtag's kind
 pub value_form : (R : List EntryParts) → IsRegistry R → (k : Kind) (s v : List ℕ) → preferred_value R k s ≡ Some v
     → has_value_form k v ≡ true
 value_form R G k s v e =
@@ -39,7 +41,7 @@ value_form R G k s v e =
     subst (λ k. has_value_form k v ≡ true) en.of_kind
     (value_form_at en.at.kind en.at.value v (valued_has R k s v IsEntry G.forms en).value en.gives)
 
--- what a language, script or region has as its value is registered
+-- under the conditions C1 to C6 the value of a language, script or region is registered
 pub value_registered : (R : List EntryParts) → MeetsCoreConditions R → (k : Kind) (s v : List ℕ)
     → has_value_of_own_kind k ≡ true → preferred_value R k s ≡ Some v → is_registered R k v ≡ true
 value_registered R C k s v keeps e =
@@ -48,21 +50,21 @@ value_registered R C k s v keeps e =
     ((valued_has R k s v (HasRegisteredValue R) C.values en) (ap has_value_of_own_kind en.of_kind ∙ keeps) v
     en.gives)
 
--- a record that names the one subtag `t` is the entry of no other
+-- a record whose name is the one subtag `t` names and holds no other subtag `s`
 pub single_name : (s t : List ℕ) (n : EntryName) → n ≡ names.Single t → (is_named s n ≡ true) ⊎ (holds s n ≡ true) → t ≡ s
 single_name s t n e (inl h) =
     (bytes_eq-Decides t s).0 (ap (is_named s) (sym e) ∙ h)
 single_name s t n e (inr h) =
     let k : false ≡ true = ap (holds s) (sym e) ∙ h in cc
 
--- the entry of the extlang `x`: it meets the condition C4, and names `x`
+-- the entry of the extlang `x` (`at`) meets the condition C4 and names `x`
 pub record ExtlangEntry (R : List EntryParts) (x : List ℕ) : Type 0 where
   pub at : EntryParts
   pub found : entry R kinds.Extlang x ≡ Some at
   pub fits : IsFittingExtlang R at
   pub same : fits.subtag ≡ x
 
--- a registered extlang has an entry that meets the condition C4 and names it
+-- under the conditions C1 to C6 a registered extlang has an entry that meets the condition C4 and names it
 pub extlang_entry : (R : List EntryParts) → MeetsCoreConditions R → (x : List ℕ) → is_registered R kinds.Extlang x ≡ true → ExtlangEntry R x
 extlang_entry R C x h =
     let en = registered_entry R kinds.Extlang x h in
@@ -71,7 +73,7 @@ extlang_entry R C x h =
     let fits : IsFittingExtlang R en.0 = has.0 of.of_kind in
     record { at = en.0; found = en.1; fits = fits; same = single_name x fits.subtag en.0.name fits.single of.names }
 
--- the replacement of an extlang is the value of its entry, or the extlang itself where there is none
+-- the replacement of an extlang is the value of its entry, or the extlang itself if that has no value
 pub replacement_at : (R : List EntryParts) (x : List ℕ) (e : EntryParts) → entry R kinds.Extlang x ≡ Some e
     → replacement R x ≡ unwrap_or (one_of e.value) x
 replacement_at R x e h = ap (λ (o : Option EntryParts). unwrap_or (option_and_then (λ (f : EntryParts). one_of f.value) o) x) h
@@ -91,7 +93,7 @@ extlang_is_language x h =
     let p = extlang_is x h in
     and_from (is_alphabetic x) (nat_le 2 (length x) && nat_le (length x) 8) p.0 (ap (λ m. nat_le 2 m && nat_le m 8) p.1)
 
--- `x`, or the value `o` in its stead, has the form of a language, if both have it
+-- the value `o`, or `x` if there is none, has the form of a language, if both have it
 replacement_form_at : (x : List ℕ) (o : Option (List ℕ)) → is_language x ≡ true
     → ((v : List ℕ) → o ≡ Some v → is_language v ≡ true) → is_language (unwrap_or o x) ≡ true
 replacement_form_at x None h f = h
@@ -102,7 +104,7 @@ pub replacement_form : (R : List EntryParts) → IsRegistry R → (x : List ℕ)
 replacement_form R G x h = replacement_form_at x (preferred_value R kinds.Extlang x) (extlang_is_language x h)
     (value_form R G kinds.Extlang x)
 
--- no variant is as short as a language of 2 or 3 letters
+-- no variant is short: it has more than 3 letters or digits
 pub variant_not_short : (v : List ℕ) → is_variant v ≡ true → is_short v ≡ false
 variant_not_short v h =
     elim (variant_is v h) [ inl n ↦ lt-leb (length v) 3 (omega (arith, n)) | inr n ↦ lt-leb (length v) 3 (omega (arith, n.0)) ]
@@ -132,12 +134,13 @@ variant_value_form R G v w e =
 
 -- What the forms of an entry say of its value.
 
--- a value that has the form for the kind of an entry has it for the kind under which the entry is found
+-- if the entry of a subtag of the kind `k` has a value with the form for the entry's own kind, the value has the form
+-- for `k`
 pub form_under : (R : List EntryParts) (k : Kind) (s : List ℕ) (e : EntryParts) (v : List ℕ) → entry R k s ≡ Some e
     → has_value_form e.kind v ≡ true → has_value_form k v ≡ true
 form_under R k s e v h f = subst (λ x. has_value_form x v ≡ true) (entry_of R k s e h).of_kind f
 
--- an optional value that has the form for the kind of an entry has it for the kind under which the entry is found
+-- the same as `form_under`, for an optional value
 pub each_form_under : (R : List EntryParts) (k : Kind) (s : List ℕ) (e : EntryParts) (o : Option (Bor (List ℕ)))
     → entry R k s ≡ Some e → IfSome o (λ v. has_value_form e.kind v.now ≡ true)
     → IfSome o (λ v. has_value_form k v.now ≡ true)

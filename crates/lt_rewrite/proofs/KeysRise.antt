@@ -1,4 +1,5 @@
--- Keywords whose keys rise, none of which has a type `true`: no step leads from them.
+-- Lemmas for `keys_rise`: if a `u` extension has only keywords, their keys rise, and none has a type `true`, no step
+-- leads from the extension, so that it is in its normal form as it is.
 use Rattle.std.proofs.Common.{◌≡◌, ℕ, ◌<◌, Bool, true, false, not, List, [], ◌∷◌, ◌++◌, Option, Some, None, refl, sym}
 use Rattle.std.proofs.Common.{ap, ap₂, ◌∙◌, subst, length, arith, Ordering, Less, Equal, Greater, bytes_eq}
 use Rattle.std.specs.Prelude.{codes}
@@ -24,7 +25,7 @@ use Rattle.lt_rewrite.proofs.ExtensionForms.{extension, unicode_settled}
 use Rattle.lt_rewrite.proofs.PartForms.{text_total}
 use Rattle.lt_rewrite.specs.RisingKeys.{is_above, comes_after, is_type, next_key, keys_rise}
 
--- no subtag is `true`
+-- whether no subtag is `true`
 abbrev pub none_true : List (List ℕ) → Bool
 none_true ss = list_all (λ (s : List ℕ). not (bytes_eq s (codes "true"))) ss
 
@@ -42,7 +43,7 @@ AreRising [] = Unit {0}
 AreRising (k ∷ ks) = AllByRecursion (Above (Some k.key)) ks × AreRising ks
 
 -- the subtags `ss`, which follow the key `last`, are its types, and then keywords in the order of their keys, which
--- come after `last`; no type is `true`
+-- come after `last`; no type is `true`. Without a last key they have no types in front.
 pub record Rise (last : Option (List ℕ)) (ss : List (List ℕ)) : Type 0 where
   pub subtags : list_all is_extension_subtag ss ≡ true
   pub above : AllByRecursion (Above last) (keywords_of ss)
@@ -61,7 +62,7 @@ long_long : (s : List ℕ) → is_long s ≡ true → is_extension_subtag s ≡ 
 unfolding is_long is_extension_subtag
 long_long s h = grind (arith, nat_tests)
 
--- an order that is above is Greater
+-- an order that passes the test `is_above` is Greater
 is_greater : (o : Ordering) → is_above o ≡ true → o ≡ Greater
 is_greater Less h = cc
 is_greater Equal h = cc
@@ -82,7 +83,7 @@ above_more (Some l) s h k a =
 abbrev keyword : List ℕ → List (List ℕ) → KeywordParts
 keyword key types = record { key = key; types = types }
 
--- one subtag more in front: a key that comes after `last`
+-- if `Rise` holds of the subtags after a key `s`, which comes after `last`, it holds with `s` in front
 rise_key : (last : Option (List ℕ)) (s : List ℕ) (ss : List (List ℕ)) → is_key s ≡ true → comes_after last s ≡ true
     → Rise (Some s) ss → Rise last (s ∷ ss)
 rise_key last s ss key after r =
@@ -97,7 +98,7 @@ rise_key last s ss key after r =
       first = λ e. none;
     }
 
--- one subtag more in front: a type of the key `last`, other than `true`
+-- if `Rise` holds of the subtags after a type `s` of the key `last`, other than `true`, it holds with `s` in front
 rise_type : (last : List ℕ) (s : List ℕ) (ss : List (List ℕ)) → is_key s ≡ false → is_long s ≡ true
     → not (bytes_eq s (codes "true")) ≡ true → Rise (Some last) ss → Rise (Some last) (s ∷ ss)
 rise_type last s ss key long other r =
@@ -112,7 +113,7 @@ rise_type last s ss key long other r =
       first = λ e. cc;
     }
 
--- where keys rise, there is a last key `k` after the subtag `s`, and from it on the keys of the others rise
+-- if the keys of `s` and `ss` rise, there is a last key `k` once `s` is read, and from it on the keys of `ss` rise
 next_some : (last : Option (List ℕ)) (s : List ℕ) (ss : List (List ℕ)) → keys_rise last (s ∷ ss) ≡ true → (k : List ℕ)
     × (next_key last s ≡ Some k) × (keys_rise (Some k) ss ≡ true)
 next_some last s ss h = go (next_key last s) refl
@@ -155,11 +156,11 @@ rise last (s ∷ ss) h =
 abbrev pub parts : List (List ℕ) → UForm
 parts ss = record { attributes = before is_key ss; keywords = keywords_of ss }
 
--- subtags whose keys rise from the start, at least one, have these parts
+-- at least one subtag, with keys that rise from the start, has the parts that `parts` gives
 pub parts_found : (ss : List (List ℕ)) → Rise None ss → 0 < length ss → IsUnicode ss (parts ss)
 parts_found ss r some = u_found ss (parts ss) r.subtags some refl refl
 
--- the last of keywords whose keys rise have keys that rise
+-- if the keys of keywords rise, so do those of the last ones, `ks`
 rising_rest : (before ks : List KeywordParts) → AreRising (before ++ ks) → AreRising ks
 rising_rest [] ks h = h
 rising_rest (b ∷ bs) ks h = rising_rest bs ks h.1

@@ -1,4 +1,4 @@
--- What the crates above may use.
+-- What the crates that use this one may use.
 pub mod Stars
 pub mod NormalForms
 pub mod PartLists
@@ -19,7 +19,7 @@ pub mod KeysRise
 mod ExtensionLaws
 pub mod ProperTags
 pub mod StepLaws
--- What this crate alone uses.
+-- What only this crate uses.
 mod Sorting
 mod PartSorting
 mod OrderingRows

@@ -1,4 +1,5 @@
--- A function `form` that gives each value its one normal form, and what steps keep.
+-- Steps of any kind that lead to one normal form, which a function `form` gives of each value (`IsFormOf`), and what
+-- any number of steps keep if each step keeps it. The word `many` stands here for any number of steps (`Star`).
 use Rattle.std.proofs.Common.{◌≡◌, ℕ, ◌≤◌, ◌⊎◌, inl, inr, refl, sym, ◌∙◌, arith}
 use Rattle.lt_rewrite.specs.Rewriting.{Star, done, then, Rests, IsNormalForm}
 use Rattle.lt_rewrite.proofs.Stars.{star_trans}
@@ -14,13 +15,13 @@ pub formed_by : {A : Type 0} {Step : A → A → Type 0} {form : A → A} → ((
     → ((a : A) → IsNormalForm Step a (form a)) → IsFormOf Step form
 formed_by k n = record { kept = k; reached = λ a. (n a).reached; rests = λ a. (n a).at_rest }
 
--- what each step keeps, many steps keep
+-- if each step keeps `P`, many steps keep `P`
 pub star_keeps : {A : Type 0} {Step : A → A → Type 0} (P : A → Type 0) → ((a b : A) → Step a b → P a → P b) → {a b : A}
     → Star Step a b → P a → P b
 star_keeps P h done p = p
 star_keeps P h (then {a = a} {b = b} s r) p = star_keeps P h r (h a b s p)
 
--- from where no step leads, many steps lead nowhere else
+-- if no step leads from `a`, many steps from `a` lead only to `a`
 pub star_rests : {A : Type 0} {Step : A → A → Type 0} {a b : A} → Star Step a b → Rests Step a → a ≡ b
 star_rests done h = refl
 star_rests (then {b = b} s r) h = absurd (h b s)
@@ -46,26 +47,27 @@ normal_is_form F a b n = star_form F n.reached ∙ rest_is_form F b n.at_rest
 pub form_again : {A : Type 0} {Step : A → A → Type 0} {form : A → A} → IsFormOf Step form → (a : A) → form (form a) ≡ form a
 form_again {form = form} F a = rest_is_form F (form a) (F.rests a)
 
--- where `g` makes a step of each step, it makes many steps of many
+-- if `g` makes of each step a step of another kind, it makes many steps of many
 pub star_map : {A B : Type 0} {Step : A → A → Type 0} {Other : B → B → Type 0} (g : A → B)
     → ((a b : A) → Step a b → Other (g a) (g b)) → {a b : A} → Star Step a b → Star Other (g a) (g b)
 star_map g h done = done
 star_map g h (then {a = a} {b = b} s r) = then (h a b s) (star_map g h r)
 
--- what no step makes more, many steps make no more
+-- if no step makes the number that `f` gives higher, many steps make it no higher
 pub star_no_more : {A : Type 0} {Step : A → A → Type 0} (f : A → ℕ) → ((a b : A) → Step a b → f b ≤ f a) → {a b : A}
     → Star Step a b → f b ≤ f a
 star_no_more f h {a = p} r = star_keeps (λ x. f x ≤ f p) (λ a b s l. let m = h a b s in omega (arith, m, l)) r (omega arith)
 
--- where `g` makes a step of each step while `P` holds, which each step keeps, it makes many steps of many
+-- if each step keeps `P`, and `g` makes a step of another kind of each step between values of which `P` holds, it makes
+-- many steps of many from such a value
 pub star_map_while : {A B : Type 0} {Step : A → A → Type 0} {Other : B → B → Type 0} (P : A → Type 0) (g : A → B)
     → ((a b : A) → Step a b → P a → P b) → ((a b : A) → Step a b → P a → P b → Other (g a) (g b)) → {a b : A}
     → Star Step a b → P a → Star Other (g a) (g b)
 star_map_while P g k h done p = done
 star_map_while P g k h (then {a = a} {b = b} s r) p = let q = k a b s p in then (h a b s p q) (star_map_while P g k h r q)
 
--- the normal forms of two parts make that of the whole, which `make` makes of the parts, if the steps on the whole are
--- those on its parts
+-- if `b` and `y` are the normal forms of two parts `a` and `x`, the whole that `make` makes of them is the normal form
+-- of the whole, if the steps on the whole are the steps on its parts
 pub pair_settles : {A B C : Type 0} {One : A → A → Type 0} {Two : B → B → Type 0} {Step : C → C → Type 0} (make : A → B
     → C) → ((a b : A) (x : B) → One a b → Step (make a x) (make b x))
     → ((a : A) (x y : B) → Two x y → Step (make a x) (make a y))

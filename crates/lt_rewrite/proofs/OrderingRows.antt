@@ -12,7 +12,7 @@ use Rattle.lt_rewrite.proofs.ExtensionForms.{extension}
 abbrev field : List ℕ → List (List ℕ) → FieldParts
 field separator values = record { separator = separator; values = values }
 
--- foo-bar-foo-nu-latn-ca-buddhist-nu-arab: attributes and keywords come in order, and of equal ones the first stays
+-- foo-bar-foo-nu-latn-ca-buddhist-nu-arab: attributes and keywords are put in order, and of equal ones the first stays
 repeated : u_form
     (parts (codes "foo" ∷ codes "bar" ∷ codes "foo" ∷ [])
     (keyword (codes "nu") (codes "latn" ∷ []) ∷ keyword (codes "ca") (codes "buddhist" ∷ [])
@@ -20,20 +20,20 @@ repeated : u_form
     ≡ parts (codes "bar" ∷ codes "foo" ∷ []) (keyword (codes "ca") (codes "buddhist" ∷ []) ∷ keyword (codes "nu") (codes "latn" ∷ []) ∷ [])
 repeated = refl
 
--- kn-true loses its type
+-- kn-true: a keyword loses the only type `true`
 sole_true : u_form (parts [] (keyword (codes "kn") (codes "true" ∷ []) ∷ [])) ≡ parts [] (keyword (codes "kn") [] ∷ [])
 sole_true = refl
 
--- kn-true-true keeps its types
+-- kn-true-true: a keyword with two types keeps both
 two_types : u_form (parts [] (keyword (codes "kn") (codes "true" ∷ codes "true" ∷ []) ∷ []))
     ≡ parts [] (keyword (codes "kn") (codes "true" ∷ codes "true" ∷ []) ∷ [])
 two_types = refl
 
--- the attribute true stays
+-- true: the attribute `true` stays
 true_attribute : u_form (parts (codes "true" ∷ []) []) ≡ parts (codes "true" ∷ []) []
 true_attribute = refl
 
--- m0-names-bgn-a0-xyz-m0-aaa: fields may repeat, and keep the order of their values
+-- m0-names-bgn-a0-xyz-m0-aaa: fields are put in order, may repeat, and keep the order of their values
 fields : sorted false separator_cmp
     (field (codes "m0") (codes "names" ∷ codes "bgn" ∷ []) ∷ field (codes "a0") (codes "xyz" ∷ [])
     ∷ field (codes "m0") (codes "aaa" ∷ []) ∷ [])
@@ -41,7 +41,7 @@ fields : sorted false separator_cmp
     ∷ field (codes "m0") (codes "aaa" ∷ []) ∷ []
 fields = refl
 
--- b-ccc-bbb-a-aaa: the extensions come in the order of their singletons, and keep that of their subtags
+-- b-ccc-bbb-a-aaa: extensions are put in the order of their singletons, and keep the order of their subtags
 extensions : sorted false singleton_cmp (extension 98 (codes "ccc" ∷ codes "bbb" ∷ []) ∷ extension 97 (codes "aaa" ∷ []) ∷ [])
     ≡ extension 97 (codes "aaa" ∷ []) ∷ extension 98 (codes "ccc" ∷ codes "bbb" ∷ []) ∷ []
 extensions = refl

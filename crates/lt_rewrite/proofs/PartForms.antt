@@ -1,4 +1,6 @@
--- The normal forms of the parts of a u and of a t extension.
+-- The normal forms of the parts of a `u` extension (`u_form`) and, under the conditions C1 to C6
+-- (`MeetsCoreConditions`), of a `t` extension (`t_form`). Steps on the parts keep their normal form and their shapes,
+-- and make them no longer.
 use Rattle.std.proofs.Common.{◌≡◌, ℕ, ◌≤◌, ◌<◌, true, false, cond, List, [], ◌∷◌, ◌++◌, refl, sym, ap, ◌∙◌, subst, ap₂}
 use Rattle.std.proofs.Common.{bytes_eq, length, arith, Option, Some, None, IfSome, ◌≢◌, ◌⊎◌, inl, inr}
 use Rattle.std.specs.Prelude.{codes, flat_map, map, option_map}
@@ -30,7 +32,7 @@ use Rattle.std.proofs.lemmas.Bool.{cases_Bool}
 use Rattle.lt_rewrite.specs.Orderings.{ListStep}
 use Rattle.lt_rewrite.specs.Conditions.{MeetsCoreConditions}
 
--- The normal form of the parts of a u extension.
+-- The normal form of the parts of a `u` extension.
 
 -- the order of subtags is total
 pub text_total : IsTotalOrder text_cmp
@@ -49,7 +51,7 @@ record LosesTrue (k l : KeywordParts) : Type 0 where
 abbrev pub with_types : List ℕ → List (List ℕ) → KeywordParts
 with_types key types = record { key = key; types = types }
 
--- the only type is `true`, or `without_true` changes nothing
+-- the types of a keyword are exactly `true`, or `without_true` leaves them as they are
 sole_or_kept : (types : List (List ℕ)) → (types ≡ codes "true" ∷ []) ⊎ (without_true types ≡ types)
 sole_or_kept (t ∷ []) =
     elim (cases_Bool (bytes_eq t (codes "true"))) [
@@ -58,7 +60,7 @@ sole_or_kept (t ∷ []) =
     ]
 sole_or_kept s = inr refl
 
--- `untrue` gives the keyword without an only type `true`, to which a DropTrue step leads, and from which none leads
+-- `untrue` gives the normal form of a keyword by the step that drops its only type, `true`
 untrue_is_form : IsFormOf LosesTrue untrue
 untrue_is_form = record {
   kept = λ k l s. ap (λ ts. with_types k.key (without_true ts)) s.sole ∙ sym (ap untrue s.result);
@@ -73,11 +75,12 @@ untrue_is_form = record {
       cc;
 }
 
--- the normal form of keywords: without a sole type `true`, in the order of their keys, and of one key the first alone
+-- the normal form of keywords: each without its only type, if that is `true`, in the order of their keys, and only the
+-- first of one key
 abbrev pub keywords_form : List KeywordParts → List KeywordParts
 keywords_form ks = sorted true key_cmp (map untrue ks)
 
--- `keywords_form` gives the normal form by steps on one keyword and on their order
+-- `keywords_form` gives the normal form by steps on one keyword and ordering steps
 keywords_formed : IsFormOf (PartStep LosesTrue true key_cmp) keywords_form
 keywords_formed = parts_are_formed LosesTrue untrue untrue_is_form true key_cmp key_total (λ _ _. refl)
 
@@ -89,14 +92,14 @@ u_form p = record { attributes = sorted true text_cmp p.attributes; keywords = k
 abbrev pub with_parts : List (List ℕ) → List KeywordParts → UForm
 with_parts attributes keywords = record { attributes = attributes; keywords = keywords }
 
--- a step on the keywords is one on the parts
+-- a step on the keywords is one on the parts of a `u` extension
 keyword_step : (as' : List (List ℕ)) (ks ls : List KeywordParts) → PartStep LosesTrue true key_cmp ks ls
     → UnicodeStep (with_parts as' ks) (with_parts as' ls)
 keyword_step as' ks ls (on_part before k l after e f s) =
     on_types refl before k after (record { there = e; sole = s.sole; result = f ∙ ap (λ x. before ++ x ∷ after) s.result })
 keyword_step as' ks ls (on_order s) = on_keywords refl s
 
--- a DropTrue step is one on a keyword
+-- a DropTrue step on the keywords is a step on the keyword `k`, a part of their list
 as_part : (before : List KeywordParts) (k : KeywordParts) (after ks ls : List KeywordParts)
     → DropsTrue before k after ks ls → PartStep LosesTrue true key_cmp ks ls
 as_part before k after ks ls s = on_part before k (record k { types = [] }) after s.there s.result (record { sole = s.sole; result = refl })
@@ -126,7 +129,7 @@ u_formed =
     (form_is_normal (sorting_is_form true text_cmp text_total) p.attributes)
     (form_is_normal keywords_formed p.keywords))
 
--- where each part spells a subtag, a list that is not empty does
+-- if each part spells at least one subtag, a list that is not empty does
 some_spelled : {A : Type 0} (spell : A → List (List ℕ)) → ((a : A) → 0 < length (spell a)) → (xs : List A) → xs ≢ []
     → 0 < length (flat_map spell xs)
 some_spelled spell h [] n = absurd (n refl)
@@ -168,7 +171,7 @@ u_shaped p q (on_types h before l after s) k =
       );
     }
 
--- a step on the parts of a `u` extension makes the subtags no more
+-- a step on the parts of a `u` extension leads to parts with no more subtags
 pub u_step_length : (p q : UForm) → UnicodeStep p q → length (spell_u q) ≤ length (spell_u p)
 u_step_length p q (on_attributes s h) =
     omega (arith, length-append {A = List ℕ}, length_step p.attributes q.attributes s, ap (λ ks. length (flat_map spell_keyword ks)) h)
@@ -185,7 +188,7 @@ u_step_length p q (on_types h before k after s) =
           (record k { types = [] }) after (omega arith),
     )
 
--- The normal form of the parts of a t extension, where each core has one.
+-- The normal form of the parts of a `t` extension.
 
 -- the order of fields is total
 pub separator_total : IsTotalOrder separator_cmp
@@ -195,7 +198,7 @@ separator_total = on_total (λ (f : FieldParts). f.separator) text_total
 abbrev pub with_source : Option CoreParts → List FieldParts → TForm
 with_source source fields = record { source = source; fields = fields }
 
--- a core step on an optional source: there is one, and it leads to one
+-- a core step leads from the one optional source to the other: there is a source before it and after it
 abbrev pub OnSome : List EntryParts → Option CoreParts → Option CoreParts → Type 0
 OnSome R o r = (c d : CoreParts) × (o ≡ Some c) × (r ≡ Some d) × CoreStep R c d
 
@@ -203,7 +206,7 @@ OnSome R o r = (c d : CoreParts) × (o ≡ Some c) × (r ≡ Some d) × CoreStep
 pub none_settles : (R : List EntryParts) → IsNormalForm (OnSome R) None None
 none_settles R = record { reached = done; at_rest = λ r s. cc (s.2) }
 
--- the core normal form of a source is its normal form
+-- the core normal form of a source is its normal form by steps on an optional source
 pub source_settles : (R : List EntryParts) {c d : CoreParts} → IsCoreNormalForm R c d → IsNormalForm (OnSome R) (Some c) (Some d)
 source_settles R {d = d} n = record {
   reached = star_map Some (λ x y s. (x, y, refl, refl, s)) n.reached;
@@ -217,7 +220,8 @@ t_parts : (R : List EntryParts) (o : Option CoreParts) (fs : List FieldParts) (q
 t_parts R o fs q (on_source c d from to s h) = inl (q.source, (c, d, from, to, s))
 t_parts R o fs q (on_fields h s) = inr (q.fields, s)
 
--- the normal form of the parts of a `t` extension is that of the source and that of the fields
+-- if `q` has the normal forms of the source and of the fields of `p`, it is the normal form of the parts `p` of a `t`
+-- extension
 pub transform_settles : (R : List EntryParts) (p q : TForm) → IsNormalForm (OnSome R) p.source q.source
     → IsNormalForm (ListStep false separator_cmp) p.fields q.fields → IsNormalForm (TransformStep R) p q
 transform_settles R p q =
@@ -267,7 +271,7 @@ module _ (R : List EntryParts) (S : (c d : CoreParts) → IsCore c → CoreStep 
         );
       }
 
--- a step on the parts of a `t` extension makes the subtags no more
+-- a step on the parts of a `t` extension leads to parts with no more subtags
 pub t_step_length : (R : List EntryParts) (p q : TForm) → TransformStep R p q → length (spell_t q) ≤ length (spell_t p)
 t_step_length R p q (on_source c d from to s same_fields) =
     omega (
@@ -281,7 +285,7 @@ t_step_length R p q (on_source c d from to s same_fields) =
 t_step_length R p q (on_fields h s) =
     omega (arith, length-append {A = List ℕ}, ap (λ o. length (spell_source o)) h, spelled_step spell_field p.fields q.fields s)
 
--- attributes are as many as their subtags
+-- there are as many attributes as subtags that they spell
 pub attributes_count : (xs : List (List ℕ)) → length (flat_map (λ a. a ∷ []) xs) ≡ length xs
 attributes_count [] = refl
 attributes_count (x ∷ xs) = omega (arith, attributes_count xs)

@@ -1,4 +1,5 @@
--- What the steps on lists of parts keep, and lists that are cut at one element.
+-- What the ordering steps on lists of parts keep: what holds of each part; and they lead to no more parts and subtags.
+-- And lists that are cut at one element: when two cuts of a list are the same.
 use Rattle.std.proofs.Common.{◌≡◌, ◌≢◌, ℕ, ◌≤◌, ◌<◌, ◌+◌, Bool, true, List, [], ◌∷◌, ◌++◌, Option, Some, refl, sym, ap}
 use Rattle.std.proofs.Common.{ap₂, ◌∙◌, subst, Ordering, length, arith, IfSome, suc, get_or, set, take, drop}
 use Rattle.std.specs.Prelude.{flat_map, map}
@@ -12,31 +13,31 @@ use Rattle.lt_rewrite.specs.Orderings.{ListStep, by_swap, by_drop}
 use Rattle.lt_tag.specs.Parts.{ExtensionParts}
 use Rattle.lt_registry.specs.Validity.{Distinct}
 
--- a test that all parts pass, as a fact of each
+-- if all parts pass a test, each part does
 pub facts_of_tests : {A : Type 0} (test : A → Bool) (xs : List A) → list_all test xs ≡ true → AllByRecursion (λ x. test x ≡ true) xs
 facts_of_tests test xs h = recursion_from_All (λ x. test x ≡ true) xs (AllPass-from_list_all test xs h)
 
--- a fact of each part, as a test that all pass
+-- if each part passes a test, all do
 pub tests_of_facts : {A : Type 0} (test : A → Bool) (xs : List A) → AllByRecursion (λ x. test x ≡ true) xs → list_all test xs ≡ true
 tests_of_facts test xs h = list_all-from_AllPass test xs (All-from_recursion (λ x. test x ≡ true) xs h)
 
--- where `P` of all parts of `xs` gives `P` of all of `ys`, it does so after the same parts
+-- if `P` of all parts of `xs` gives `P` of all of `ys`, it does so with the same parts before both
 all_under : {A : Type 0} (P : A → Type 0) (before xs ys : List A) → (AllByRecursion P xs → AllByRecursion P ys)
     → AllByRecursion P (before ++ xs) → AllByRecursion P (before ++ ys)
 all_under P [] xs ys f h = f h
 all_under P (u ∷ us) xs ys f h = (h.0, all_under P us xs ys f h.1)
 
--- what each part has, each has after two neighbours change places
+-- if `P` holds of each part, it does so after two neighbours change places
 pub all_swapped : {A : Type 0} (P : A → Type 0) (before : List A) (a b : A) (after : List A)
     → AllByRecursion P (before ++ a ∷ b ∷ after) → AllByRecursion P (before ++ b ∷ a ∷ after)
 all_swapped P before a b after h = all_under P before (a ∷ b ∷ after) (b ∷ a ∷ after) (λ k. (k.1.0, (k.0, k.1.1))) h
 
--- what each part has, each has without one of them
+-- if `P` holds of each part, it does so without one of them, `v`
 pub all_without : {A : Type 0} (P : A → Type 0) (before : List A) (v : A) (after : List A)
     → AllByRecursion P (before ++ v ∷ after) → AllByRecursion P (before ++ after)
 all_without P before v after h = all_under P before (v ∷ after) after (λ k. k.1) h
 
--- what each part has, each part has after a step
+-- if `P` holds of each part, it does so after a step on the list
 pub all_step : {A : Type 0} (P : A → Type 0) {once : Bool} {cmp : A → A → Ordering} (xs ys : List A)
     → ListStep once cmp xs ys → AllByRecursion P xs → AllByRecursion P ys
 all_step P xs ys (by_swap before a b after s) h = subst (AllByRecursion P) (sym s.result)
@@ -46,27 +47,27 @@ all_step P xs ys (by_drop before a between b after o s) h =
     (all_under P before (a ∷ (between ++ b ∷ after)) (a ∷ (between ++ after))
     (λ k. (k.0, all_without P between b after k.1)) (subst (AllByRecursion P) s.there h))
 
--- a test that all parts pass, all pass after a step
+-- if all parts pass a test, they do so after a step on the list
 pub list_all_step : {A : Type 0} (test : A → Bool) {once : Bool} {cmp : A → A → Ordering} (xs ys : List A)
     → ListStep once cmp xs ys → list_all test xs ≡ true → list_all test ys ≡ true
 list_all_step test xs ys s h = tests_of_facts test ys (all_step (λ x. test x ≡ true) xs ys s (facts_of_tests test xs h))
 
--- what each part has, each has with `w` in the place of `v`, if `w` has it
+-- if `P` holds of each part and of `w`, it holds of each part with `w` in the place of `v`
 pub all_replaced : {A : Type 0} (P : A → Type 0) (before : List A) (v w : A) (after : List A)
     → AllByRecursion P (before ++ v ∷ after) → P w → AllByRecursion P (before ++ w ∷ after)
 all_replaced P before v w after h p = all_under P before (v ∷ after) (w ∷ after) (λ k. (p, k.1)) h
 
--- what each part has, the one at which the list is cut has
+-- if `P` holds of each part, it holds of the part `v` at which the list is cut
 pub all_middle : {A : Type 0} (P : A → Type 0) (before : List A) (v : A) (after : List A) → AllByRecursion P (before ++ v ∷ after) → P v
 all_middle P [] v after h = h.0
 all_middle P (u ∷ us) v after h = all_middle P us v after h.1
 
--- where `g` makes a part with `Q` of one with `P`, it does so of all parts
+-- if `P` of a part gives `Q` of what `g` makes of it, `P` of all parts gives `Q` of what `g` makes of all
 pub all_mapped : {A B : Type 0} (P : A → Type 0) (Q : B → Type 0) (g : A → B) → ((a : A) → P a → Q (g a))
     → (xs : List A) → AllByRecursion P xs → AllByRecursion Q (map g xs)
 all_mapped P Q g h xs a = recursion_from_All Q (map g xs) (All-map Q g xs (All-weaker P (λ x. Q (g x)) h xs (All-from_recursion P xs a)))
 
--- what `g` makes of each part has `P`, told of the parts
+-- if `P` holds of each element of the list that `g` makes of a list, it holds of what `g` makes of each part
 pub all_unmapped : {A B : Type 0} (P : B → Type 0) (g : A → B) (xs : List A) → AllByRecursion P (map g xs)
     → AllByRecursion (λ x. P (g x)) xs
 all_unmapped P g [] h = tt
@@ -77,7 +78,7 @@ pub empty_middle : {A : Type 0} (before : List A) (a : A) (after : List A) → b
 empty_middle [] a after e = cc
 empty_middle (b ∷ bs) a after e = cc
 
--- where `P` and `Q` of a part give `S`, they do so of all parts
+-- if `P` and `Q` of a part give `S` of it, `P` and `Q` of all parts give `S` of all
 pub all_both : {A : Type 0} (P Q S : A → Type 0) → ((a : A) → P a → Q a → S a) → (xs : List A) → AllByRecursion P xs
     → AllByRecursion Q xs → AllByRecursion S xs
 all_both P Q S f [] h k = tt
@@ -87,7 +88,7 @@ all_both P Q S f (x ∷ xs) h k = (f x h.0 k.0, all_both P Q S f xs h.1 k.1)
 pub others_same : {A : Type 0} (x y : A) (xs ys : List A) → x ∷ xs ≡ y ∷ ys → xs ≡ ys
 others_same x y xs ys e = cc
 
--- a step on a list makes its subtags no more
+-- a step on a list of parts leads to a list with no more subtags
 pub spelled_step : {A : Type 0} (spell : A → List (List ℕ)) {once : Bool} {cmp : A → A → Ordering} (xs ys : List A)
     → ListStep once cmp xs ys → length (flat_map spell ys) ≤ length (flat_map spell xs)
 spelled_step spell xs ys (by_swap before a b after s) =
@@ -95,19 +96,19 @@ spelled_step spell xs ys (by_swap before a b after s) =
 spelled_step spell xs ys (by_drop before a between b after o s) =
     rw (s.result, s.there) (simp (flat_map-append, length-append) (omega arith))
 
--- where one part is replaced by one with no more subtags, the list has no more
+-- if a part is replaced by one with no more subtags, the list has no more subtags
 pub spelled_replaced : {A : Type 0} (spell : A → List (List ℕ)) (before : List A) (v w : A) (after : List A)
     → length (spell w) ≤ length (spell v) → length (flat_map spell (before ++ w ∷ after))
     ≤ length (flat_map spell (before ++ v ∷ after))
 spelled_replaced spell before v w after h =
     simp (flat_map-append, length-append) (omega arith)
 
--- a step on a list makes its parts no more
+-- a step on a list of parts leads to a list with no more parts
 pub length_step : {A : Type 0} {once : Bool} {cmp : A → A → Ordering} (xs ys : List A) → ListStep once cmp xs ys → length ys ≤ length xs
 length_step xs ys (by_swap before a b after s) = rw (s.result, s.there) (simp length-append (omega arith))
 length_step xs ys (by_drop before a between b after o s) = rw (s.result, s.there) (simp length-append (omega arith))
 
--- where one part is replaced by one, the list has as many parts as before
+-- if a part is replaced by another, the list has as many parts as before
 pub length_replaced : {A : Type 0} (before : List A) (v w : A) (after : List A)
     → length (before ++ w ∷ after) ≡ length (before ++ v ∷ after)
 length_replaced before v w after = simp length-append
@@ -122,11 +123,11 @@ pub some_long : {A : Type 0} (xs : List A) → xs ≢ [] → 0 < length xs
 some_long [] h = absurd (h refl)
 some_long (x ∷ xs) h = omega arith
 
--- what holds of an optional value, if there is one, holds of the value
+-- if `P` holds of an optional value in case there is one, it holds of the value `a`
 pub if_some_is : {A : Type 0} (P : A → Type 0) (o : Option A) (a : A) → o ≡ Some a → IfSome o P → P a
 if_some_is P o a e h = subst (λ x. IfSome x P) e h
 
--- what holds of the value holds of the optional value
+-- if `P` holds of the value `a`, it holds of the optional value in case there is one
 pub is_if_some : {A : Type 0} (P : A → Type 0) (o : Option A) (a : A) → o ≡ Some a → P a → IfSome o P
 is_if_some P o a e h = subst (λ x. IfSome x P) (sym e) h
 
@@ -140,11 +141,11 @@ cut_at before v after vs d e = ap (λ us. get_or us (length before) d) e ∙ get
 pub cut_within : {A : Type 0} (before : List A) (v : A) (after vs : List A) → vs ≡ before ++ v ∷ after → length before < length vs
 cut_within before v after vs e = omega (arith, ap length e, length-append before (v ∷ after))
 
--- a list, cut at its part `x` at the index `i`
+-- a list is what is before its part `x` at the index `i`, then `x`, and then what is after it
 pub round : {A : Type 0} (xs : List A) (i : ℕ) (x : A) → i < length xs → x ≡ get_or xs i x → xs ≡ take i xs ++ x ∷ drop (suc i) xs
 round xs i x h e = sym (set-get_or xs i x) ∙ ap (set xs i) (sym e) ∙ set_split xs i x h
 
--- Where one list is cut twice, and when both cuts are the same.
+-- When two cuts of one list are the same.
 
 -- two cuts of one list are the same: in what is before, in the part, and in what is after
 pub record SameCut {A : Type 0} (xs ys : List A) (v w : A) (us vs : List A) : Type 0 where
@@ -152,8 +153,8 @@ pub record SameCut {A : Type 0} (xs ys : List A) (v w : A) (us vs : List A) : Ty
   pub at : v ≡ w
   pub rest : us ≡ vs
 
--- two cuts are the same, if `Q` relates what is before them, where `Q` relates no empty list and one that is not, and
--- passes from two lists with one first part to their rests
+-- two cuts of one list are the same, if `Q` relates what is before them: `Q` relates an empty list to no list that is
+-- not empty, or the other way round, and if it relates two lists with the same first part, it relates their rests
 same_by : {A : Type 0} (Q : List A → List A → Type 0) → ((y : A) (ys : List A) → Q [] (y ∷ ys) → ⊥)
     → ((x : A) (xs : List A) → Q (x ∷ xs) [] → ⊥) → ((x : A) (xs ys : List A) → Q (x ∷ xs) (x ∷ ys) → Q xs ys)
     → (xs ys : List A) (v w : A) (us vs : List A) → xs ++ v ∷ us ≡ ys ++ w ∷ vs → Q xs ys → SameCut xs ys v w us vs
@@ -166,13 +167,13 @@ same_by Q l r more (x ∷ xs) (y ∷ ys) v w us vs e q =
     (more x xs ys (subst (λ z. Q (x ∷ xs) (z ∷ ys)) (sym h) q)) in
     record { front = ap₂ (λ z zs. z ∷ zs) h k.front; at = k.at; rest = k.rest }
 
--- two cuts with as many parts before them are the same
+-- two cuts of one list with as many parts before them are the same
 pub same_cut : {A : Type 0} (xs ys : List A) (v w : A) (us vs : List A) → xs ++ v ∷ us ≡ ys ++ w ∷ vs
     → length xs ≡ length ys → SameCut xs ys v w us vs
 same_cut xs ys v w us vs e l =
     same_by (λ a b. length a ≡ length b) (λ y ys h. omega arith) (λ x xs h. omega arith) (λ x xs ys h. omega arith) xs ys v w us vs e l
 
--- two cuts with as many subtags before them are the same, if each part has a subtag
+-- two cuts of one list with as many subtags before them are the same, if each part has a subtag
 pub same_flat : {A : Type 0} (spell : A → List (List ℕ)) → ((a : A) → spell a ≢ [])
     → (xs ys : List A) (v w : A) (us vs : List A) → xs ++ v ∷ us ≡ ys ++ w ∷ vs
     → length (flat_map spell xs) ≡ length (flat_map spell ys) → SameCut xs ys v w us vs
@@ -187,7 +188,7 @@ same_flat spell n xs ys v w us vs e l =
       length-append (spell x) (flat_map spell ys),
     )) xs ys v w us vs e l
 
--- the number of subtags of a list is that of those before a part, of the part, and after it
+-- the number of subtags of a list is that of those before a part `a`, of `a`, and of those after it
 pub flat_length : {A : Type 0} (spell : A → List (List ℕ)) (before : List A) (a : A) (between : List A)
     → length (flat_map spell (before ++ a ∷ between)) ≡ length (flat_map spell before) + length (spell a)
     + length (flat_map spell between)
@@ -198,7 +199,7 @@ flat_length spell before a between =
 abbrev singleton_of : ExtensionParts → ℕ
 singleton_of e = e.singleton
 
--- where each singleton occurs once, two cuts at extensions of one singleton are the same
+-- if each singleton occurs once, two cuts of one list at extensions with the same singleton are the same
 pub distinct_cut : (xs ys : List ExtensionParts) (v w : ExtensionParts) (us vs : List ExtensionParts)
     → xs ++ v ∷ us ≡ ys ++ w ∷ vs → Distinct (map (λ (e : ExtensionParts). e.singleton) (xs ++ v ∷ us))
     → v.singleton ≡ w.singleton → SameCut xs ys v w us vs

@@ -1,4 +1,5 @@
--- Runs of first steps on the parts of an extension.
+-- Lemmas for `explain_u` and `explain_t`. A run is a list of steps, each the first of those that lead on. The runs on
+-- the lists of an extension's parts, one after another, are one run on the parts, after which no step leads on.
 use Rattle.std.proofs.Common.{◌≡◌, ◌≢◌, ℕ, suc, ◌+◌, ◌<◌, ◌≤◌, inr, List, [], ◌∷◌, ◌++◌, refl, sym, ap, ◌∙◌, subst}
 use Rattle.std.proofs.Common.{length, get_or, set, take, drop, below_more, arith, Equal, inl, Option, Some}
 use Rattle.std.specs.Prelude.{flat_map, codes}
@@ -26,10 +27,10 @@ use Rattle.lt_rewrite.specs.Rewriting.{Star, then}
 use Rattle.lt_rewrite.proofs.Stars.{star_path}
 use Rattle.lt_rewrite.specs.declared.steps.StepKind.TheVariants as steps
 
--- A step that is the first on a list of a u extension is the first on its parts, where the lists that come before it
--- are at rest.
+-- A step that is the first on one list of the parts of a `u` extension is the first on the parts, if no step of a lower
+-- rank leads on from these.
 
--- Sole types true go from keywords, one after another.
+-- The keywords lose the type `true` if it is their only one, one after another, as `drop_trues` does it.
 
 -- the only type of the keyword is `true`
 abbrev pub IsSoleTrue : KeywordParts → Type 0
@@ -39,8 +40,8 @@ IsSoleTrue k = k.types ≡ codes "true" ∷ []
 abbrev pub bare : KeywordParts → KeywordParts
 bare k = record k { types = [] }
 
--- `ks` are the keywords `from` where those before `index` have lost a sole type `true`, and the steps are added; the
--- key of the one at `index` has the place `here`
+-- `ks` are the keywords `from` once those before `index` have lost an only type `true`, and the steps of that are added
+-- to `old`, which gives `new`; the key of the keyword at `index` has the place `here`
 pub record IsBareSoFar (start : ℕ) (from ks : List KeywordParts) (old new : List Step) (index here : ℕ) : Type 0 where
   pub count : length ks ≡ length from
   pub few : length (flat_map spell_keyword ks) ≤ length (flat_map spell_keyword from)
@@ -52,7 +53,7 @@ module _ (start : ℕ) where
   module _ {from ks : List KeywordParts} {old new : List Step} {i here : ℕ}
       (h : IsBareSoFar start from ks old new i here) (k : KeywordParts) (within : i < length ks)
       (is : k ≡ get_or ks i k) where
-    -- the keyword at the index, which has no sole type `true`, stays as it is
+    -- if the types of the keyword at the index are not exactly `true`, it stays, and one keyword more is done
     pub bare_kept : (IsSoleTrue k → ⊥) → IsBareSoFar start from ks old new (i + 1) (here + length (spell_keyword k))
     bare_kept n = record {
       count = h.count;
@@ -62,7 +63,8 @@ module _ (start : ℕ) where
       adds = h.adds;
     }
 
-    -- the keyword at the index loses its sole type `true` by a DropTrue step, which is added
+    -- if the keyword at the index loses its only type, `true`, by a DropTrue step that is added, one keyword more is
+    -- done
     pub bare_more : (step : Step) {newer : List Step} → IsSoleTrue k → step.kind ≡ steps.DropTrue
         → step.place ≡ here + 1 → step.number ≡ 0 → newer ≡ new ++ step ∷ []
         → IsBareSoFar start from (set ks i (bare k)) old newer (i + 1) (here + length (spell_keyword (bare k)))
@@ -108,7 +110,7 @@ module _ (start : ℕ) where
       let t = true_step start step.place ks ls s.leads in
       h.none t.index (omega (arith, t.within, all)) t.holds
 
-  -- the place that is reached is at most one past the last subtag
+  -- the place `here` is at most one past that of the last subtag of the keywords
   pub bare_few : {from ks : List KeywordParts} {old new : List Step} {i here : ℕ}
       → IsBareSoFar start from ks old new i here → here ≤ start + length (flat_map spell_keyword from) + 1
   bare_few {ks = ks} {i = i} h = omega (arith, h.here_is, h.few, front_few spell_keyword ks i)
@@ -121,7 +123,7 @@ record IsSettledBelow (start n : ℕ) (p : UForm) : Type 0 where
   keywords_rising : 12 < n → IsRising key_cmp p.keywords
   true_nowhere : 13 < n → NoneLeads (DropsTrueBy (start + length p.attributes) p.keywords)
 
--- where no step of a rank below `n` leads on, no step of a kind `k` with a lower rank than `n` does
+-- if no step of a rank below `n` leads on (`IsSettledBelow`), no step of a kind `k` with a lower rank than `n` does
 refuted : (start n : ℕ) (p : UForm) → IsSettledBelow start n p → (step : Step) (q : UForm) (k : UnicodeKind)
     → u_rank k < n → Says k start p step q → ⊥
 refuted start n p h step q drop_attribute l (s, e) = unlike_drops text_cmp (h.attributes_unlike l) s.leads.drops
@@ -130,11 +132,11 @@ refuted start n p h step q drop_keyword l (s, e) = unlike_drops key_cmp (h.keywo
 refuted start n p h step q swap_keywords l (s, e) = rising_swaps key_cmp (h.keywords_rising l) s.leads.swaps
 refuted start n p h step q drop_true l (s, e) = h.true_nowhere l step q.keywords s
 
--- A run of steps of the kind `k` on one list is a run on the parts that `g` makes of the list, where no step of a lower
--- rank leads on from these.
+-- A run of steps of the kind `k` on one list is a run on the parts that `g` makes of the list, if no step of a lower
+-- rank leads on from these parts.
 module _ {A : Type 0} (start : ℕ) (k : UnicodeKind) (Leads : A → Step → A → Type 0) (P : A → Type 0) (g : A → UForm) where
-  -- a run on a list is one on the parts: each step on the list is one of the kind on the parts and the other way round,
-  -- and `P`, which steps keep, tells that no step of a lower rank leads on
+  -- a run on a list is one on the parts, if each step on the list is one of the kind on the parts and the other way
+  -- round, and `P`, which steps keep, says that no step of a lower rank leads on
   lifted : ((a b : A) (step : Step) → Leads a step b → Says k start (g a) step (g b))
       → ((a : A) (step : Step) (q : UForm) → Says k start (g a) step q → (b : A) × Leads a step b)
       → ((a b : A) (step : Step) → Leads a step b → P a → P b) → ((a : A) → P a → IsSettledBelow start (u_rank k) (g a))
@@ -156,7 +158,7 @@ module _ {A : Type 0} (start : ℕ) (k : UnicodeKind) (Leads : A → Step → A 
             }),
       )) from to old new first h
 
--- keywords of different keys stay so where one of them loses its types
+-- if the keys of keywords differ, they do so after one keyword loses its types
 unlike_bare : (before : List KeywordParts) (k : KeywordParts) (after : List KeywordParts)
     → IsUnlike key_cmp (before ++ k ∷ after) → IsUnlike key_cmp (before ++ record k { types = [] } ∷ after)
 unlike_bare [] k after h = h
@@ -166,21 +168,22 @@ unlike_bare (u ∷ us) k after h = (
   unlike_bare us k after h.1,
 )
 
--- keywords in the order of their keys stay so where one of them loses its types
+-- if keywords are in the order of their keys, they are so after one keyword loses its types
 rising_bare : (before : List KeywordParts) (k : KeywordParts) (after : List KeywordParts)
     → IsRising key_cmp (before ++ k ∷ after) → IsRising key_cmp (before ++ record k { types = [] } ∷ after)
 rising_bare (u ∷ []) k after h = (h.0, rising_bare [] k after h.1)
 rising_bare (u ∷ v ∷ vs) k after h = (h.0, rising_bare (v ∷ vs) k after h.1)
 rising_bare s k after h = h
 
--- The runs on the lists of a u extension, one after another, are one run on its parts.
+-- The runs on the lists of the parts of a `u` extension, one after another, are one run on the parts.
 
 -- a run of steps of one kind from `a` to `b` is added, and no such step leads on from `b`
 pub record AddsToRest {A : Type 0} (Leads : A → Step → A → Type 0) (a b : A) (old new : List Step) : Type 0 where
   pub adds : Adds Leads (λ _ _. 0) a b old new
   pub at_rest : NoneLeads (Leads b)
 
--- The attributes (`xs`), the keywords (`ks`) and the steps so far (`s`), at the start and after the steps of each kind.
+-- `xs0` to `xs2` are the attributes, `ks0` to `ks3` the keywords and `s0` to `s5` the steps so far: at the start and
+-- after the steps of each kind.
 module _ (start : ℕ) {xs0 xs1 xs2 : List (List ℕ)} {ks0 ks1 ks2 ks3 : List KeywordParts} {s0 s1 s2 s3 s4 s5 : List Step} where
   -- the runs of the five kinds, one after another, are one run on the parts, after which no step leads on; `key` is the
   -- place before the first key
@@ -238,8 +241,8 @@ module _ (start : ℕ) {xs0 xs1 xs2 : List (List ℕ)} {ks0 ks1 ks2 ks3 : List K
             step q s.0 (omega (arith, in_u start (u_parts xs2 ks3) step q s.0 s.1)) s.1,
       )
 
--- A step that is the first on the source of a t extension is the first on its parts, and so is one that is the first on
--- its fields, where the source is at rest.
+-- A step that is the first on the source of a `t` extension is the first on its parts. So is a step that is the first
+-- on its fields, if the source is at rest: no step leads on from it.
 
 -- the parts of a `t` extension: its source and its fields
 abbrev pub t_parts : Option CoreParts → List FieldParts → TForm
@@ -250,24 +253,24 @@ abbrev pub IsSourceAtRest : List EntryParts → ℕ → Option CoreParts → Typ
 IsSourceAtRest R start source = (c : CoreParts) → source ≡ Some c → NoneLeads (CoreLeads R start c)
 
 module _ (R : List EntryParts) (start : ℕ) (source : Option CoreParts) where
-  -- a SwapFields step on the fields, which begin after the source
+  -- the SwapFields step leads from one list of fields, which begin after the source, to another
   abbrev FieldSwaps : List FieldParts → Step → List FieldParts → Type 0
   FieldSwaps = SwapsBy separator_cmp spell_field steps.SwapFields (start + length (spell_source source))
 
-  -- where no step leads on from the source, a step on the parts is a swap of fields
+  -- if no step leads on from the source, a step on the parts is a swap of fields
   as_fields : IsSourceAtRest R start source → (fs : List FieldParts) (step : Step) (q : TForm)
       → TransformLeads R start (t_parts source fs) step q → FieldSwaps fs step q.fields
   as_fields rest fs step q (on_source c d from _ s _, h) = absurd (rest c from step d (s, h))
   as_fields rest fs step q (on_fields e s, h) = as_swap separator_cmp steps.SwapFields spell_field
       (start + length (spell_source source)) fs q.fields step s h
 
-  -- where no step leads on from the source or from the fields, none leads on from the parts
+  -- if no step leads on from the source or from the fields, none leads on from the parts
   pub transform_rests : (fs : List FieldParts) → IsSourceAtRest R start source
       → NoneLeads (SwapsBy separator_cmp spell_field steps.SwapFields (start + length (spell_source source)) fs)
       → NoneLeads (TransformLeads R start (t_parts source fs))
   transform_rests fs rest none step q l = none step q.fields (as_fields rest fs step q l)
 
-  -- steps that are added on the fields are added on the parts, where the source is at rest
+  -- a run on the fields that is added is a run on the parts, if the source is at rest
   pub fields_explained : {fs gs : List FieldParts} {old new : List Step} → IsSourceAtRest R start source
       → Adds (SwapsBy separator_cmp spell_field steps.SwapFields (start + length (spell_source source))) (λ _ _.
       0) fs gs old new → AddsOnTransform R start (t_parts source fs) (t_parts source gs) old new
@@ -299,7 +302,7 @@ module _ (R : List EntryParts) (start : ℕ) where
         ap rank_of (as_swap separator_cmp steps.SwapFields spell_field _ fs q.fields other s k).of_kind,
       ))
 
-  -- a run on the source that is added is one on the parts
+  -- a run on the source that is added is a run on the parts
   pub source_explained : (c d : CoreParts) (fs : List FieldParts) (old new : List Step) → AddsOnCore R start c d old new
       → AddsOnTransform R start (t_parts (Some c) fs) (t_parts (Some d) fs) old new
   source_explained c d fs old new h =
@@ -314,7 +317,7 @@ module _ (R : List EntryParts) (start : ℕ) where
         },
       )) c d old new tt h).1
 
--- a run is a number of steps of `S`, if each of its steps is one
+-- a run from `a` to `b` is any number of steps by `S`, if each step of a run is one by `S`
 pub run_star : {A : Type 0} (Leads : A → Step → A → Type 0) (rank : A → Step → ℕ) (S : A → A → Type 0)
     → ((a b : A) (step : Step) → Leads a step b → S a b) → (steps : List Step) (a b : A) → IsRun Leads rank a steps b
     → Star S a b

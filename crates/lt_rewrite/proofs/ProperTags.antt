@@ -1,4 +1,6 @@
--- A core step on the core of a proper tag leads to a proper tag, and so does a step on its extensions.
+-- Under the conditions C1 to C6 (`MeetsCoreConditions`) and C8 (`HasFittingGrandfathered`) a core step on the core of a
+-- proper tag leads to a proper tag, and so does a step on its extensions (the law `StepsKeepTagsProper`). A tag is
+-- proper if it is valid, except that a variant may occur twice.
 use Rattle.std.proofs.Common.{◌≡◌, ◌≢◌, ℕ, false, ◌≤◌, inl, List, [], ◌∷◌, ◌++◌, Option, Some, sym, ap, ◌∙◌, subst, map}
 use Rattle.std.proofs.Common.{length, arith, All, IfSome}
 use Rattle.std.specs.List.{AllByRecursion}
@@ -25,7 +27,8 @@ use Rattle.lt_tag.proofs.PartsLaws.{t_unique as one_transform}
 use Rattle.lt_tag.specs.Lists.{longest_text}
 pub use Rattle.lt_rewrite.proofs.CoreLaws.{step_proper, proper_not_grandfathered, proper_spells_none}
 
--- what is known of the core `c`, the extensions `es` and the private use subtags `ps` of a proper langtag
+-- the core `c`, the extensions `es` and the private use subtags `ps` may be those of a proper langtag: a Tag can hold
+-- them, the core and each extension are proper, and no singleton occurs twice
 pub record ProperParts (R : List EntryParts) (c : CoreParts) (es : List ExtensionParts) (ps : List (List ℕ)) : Type 0 where
   pub core : IsProperValue R c
   pub values : AllByRecursion IsExtensionValue es
@@ -35,7 +38,7 @@ pub record ProperParts (R : List EntryParts) (c : CoreParts) (es : List Extensio
   pub extensions : AllByRecursion (IsProperExtension R) es
   pub singletons : Distinct (map (λ (e : ExtensionParts). e.singleton) es)
 
--- the parts of a proper langtag have what `ProperParts` tells
+-- `ProperParts` holds of the parts of a proper langtag
 pub proper_parts : (R : List EntryParts) (c : CoreParts) (es : List ExtensionParts) (ps : List (List ℕ))
     → IsProper R (LangTag c es ps) → ProperParts R c es ps
 proper_parts R c es ps P =
@@ -52,7 +55,7 @@ proper_parts R c es ps P =
       singletons = P.parts.singletons;
     }
 
--- a langtag of parts that have this is proper, if its core spells no grandfathered tag
+-- a langtag of parts of which `ProperParts` holds is proper, if its core spells no grandfathered tag
 pub proper_langtag : (R : List EntryParts) (c : CoreParts) (es : List ExtensionParts) (ps : List (List ℕ))
     → IsNotGrandfathered (spell_core c) → ProperParts R c es ps → IsProper R (LangTag c es ps)
 proper_langtag R c es ps n P = record {
@@ -76,7 +79,7 @@ proper_langtag R c es ps n P = record {
   parts = record { core = P.core.proper; extensions = P.extensions; singletons = P.singletons };
 }
 
--- a list without repeats stays so where two neighbours change places
+-- a list without repeats has none after two neighbours change places
 distinct_swapped : (before : List ℕ) (a b : ℕ) (after : List ℕ) → Distinct (before ++ a ∷ b ∷ after) → Distinct (before ++ b ∷ a ∷ after)
 distinct_swapped [] a b after h = (((λ e. h.0.0 (sym e)), h.1.0), (h.0.1, h.1.1))
 distinct_swapped (u ∷ us) a b after h = (all_swapped (λ y. y ≢ u) us a b after h.0, distinct_swapped us a b after h.1)
@@ -85,7 +88,7 @@ distinct_swapped (u ∷ us) a b after h = (all_swapped (λ y. y ≢ u) us a b af
 abbrev singletons_of : List ExtensionParts → List ℕ
 singletons_of es = map (λ (e : ExtensionParts). e.singleton) es
 
--- singletons that differ still do after a step on the order of the extensions
+-- if the singletons of extensions differ, they do so after a step on the order of the extensions
 distinct_order : (es fs : List ExtensionParts) → ListStep false singleton_cmp es fs → Distinct (singletons_of es)
     → Distinct (singletons_of fs)
 distinct_order es fs (by_swap before a b after s) h =
@@ -94,12 +97,12 @@ distinct_order es fs (by_swap before a b after s) h =
     (simp map-append at (subst (λ l. Distinct (singletons_of l)) s.there h))))
 distinct_order es fs (by_drop before a between b after o s) h = cc
 
--- an extension in the place of one with its singleton leaves the singletons as they are
+-- if an extension `f` is put in the place of `e`, which has the same singleton, the singletons stay
 same_singletons : (before : List ExtensionParts) (e f : ExtensionParts) (after : List ExtensionParts)
     → f.singleton ≡ e.singleton → singletons_of (before ++ e ∷ after) ≡ singletons_of (before ++ f ∷ after)
 same_singletons before e f after h = simp (map-append, h)
 
--- singletons that differ still do after a step on the extensions
+-- if the singletons of extensions differ, they do so after a step on the extensions
 distinct_step : (R : List EntryParts) (es fs : List ExtensionParts) → ExtensionsStep R es fs
     → Distinct (singletons_of es) → Distinct (singletons_of fs)
 distinct_step R es fs (inside before e f after there result s) h =
@@ -120,18 +123,18 @@ pub source_proper : (R : List EntryParts) (e : ExtensionParts) (p : TForm) (c : 
 source_proper R e p c P h k there = if_some_is (IsProperCore R) p.source c there (proper_source R e p P h k)
 
 module _ (R : List EntryParts) (G : IsRegistry R) (C : MeetsCoreConditions R) (H : All (HasFittingGrandfathered R) R) where
-  -- a step on the parts of a `t` extension leads from a proper source to a proper one
+  -- if the source of the parts of a `t` extension is proper, or there is none, so it is after a step on the parts
   transform_step_proper : (p q : TForm) → TransformStep R p q → IfSome p.source (IsProperCore R) → IfSome q.source (IsProperCore R)
   transform_step_proper p q (on_source c d from to s _) P =
       is_if_some (IsProperCore R) q.source d to (step_proper R C c d (if_some_is (IsProperCore R) p.source c from P) s)
   transform_step_proper p q (on_fields h s) P = let Q : Option CoreParts → Type 0 = λ o. IfSome o (IsProperCore R) in subst Q (sym h) P
 
-  -- a step inside an extension leads from a proper one to a proper one
+  -- a step inside an extension leads from a proper extension to a proper one
   extension_step_proper : (e f : ExtensionParts) → ExtensionStep R e f → IsProperExtension R e → IsProperExtension R f
   extension_step_proper e f (in_unicode p q is_u kept _ _ _) P h = absurd (omega (arith, h, kept, is_u))
   extension_step_proper e f (in_transform p q is_t _ from to s) P h = (q, to, transform_step_proper p q s (proper_source R e p P is_t from))
 
-  -- a step on extensions leads from proper ones to proper ones
+  -- a step on extensions leads from proper extensions to proper ones
   extensions_step_proper : (es fs : List ExtensionParts) → ExtensionsStep R es fs
       → AllByRecursion (IsProperExtension R) es → AllByRecursion (IsProperExtension R) fs
   extensions_step_proper es fs (inside before e f after there result s) P =

@@ -1,4 +1,5 @@
--- The test of equal tags decides equality.
+-- Tags that pass the test `same_tag` are equal. The tests of their parts, such as `same_core`, tell whether two parts
+-- are equal.
 use Rattle.std.proofs.Common.{◌≡◌, ℕ, true, List, Option, Some, None, refl, ap, bytes_eq}
 use Rattle.std.specs.Bool.{Decides}
 use Rattle.std.specs.Cmp.Lexicographic.{pointwise}

@@ -1,5 +1,6 @@
--- The kind and the place of a step determine its record and its result. And to what a step leads from a tag, by what it
--- leads to from the core, the extensions or the whole tag.
+-- The kind and the place of a step determine its record and its result, the tag to which it leads (the law
+-- `steps_are_determined`). And lemmas for `apply`: a step leads from a tag exactly as it leads from its core, from its
+-- extensions or from the whole tag.
 use Rattle.std.proofs.Common.{◌≡◌, ℕ, ◌+◌, ◌≤◌, List, ◌++◌, Some, refl, sym, ap, ◌∙◌, length, length-append, arith, []}
 use Rattle.std.proofs.Common.{◌∷◌, Option, None, subst, MatchOption, ◌≢◌, Ordering, map, append_assoc, ◌*◌}
 use Rattle.std.specs.Prelude.{Result, Ok, IfOk}
@@ -32,12 +33,12 @@ use Rattle.lt_rewrite.proofs.ExtensionLeading.{Says, UnicodeKind, as_kind, as_sw
 use Rattle.lt_rewrite.proofs.ExtensionLeading.{drop_keyword, drop_true, in_u, inside_t, inside_u, moved, of_t, of_u}
 use Rattle.lt_rewrite.proofs.ExtensionLeading.{order, said, swap_attributes, swap_keywords, to_fields, to_swaps, told}
 
--- two steps of one kind at one place
+-- the two steps have the same kind and the same place
 record SameSpot (step other : Step) : Type 0 where
   pub kind : step.kind ≡ other.kind
   pub place : step.place ≡ other.place
 
--- two steps use one record, and lead to one result: `a` and `b` are equal
+-- two steps use the record with the same number, and their results, `a` and `b`, are equal
 record SameEnd {A : Type 0} (step other : Step) (a b : A) : Type 0 where
   pub number : step.number ≡ other.number
   pub result : a ≡ b
@@ -245,7 +246,7 @@ pub langtag_is : (t : TagForm) (c : CoreParts) → core_of t ≡ Some c → t �
 langtag_is (LangTag b es ps) c h = let e : b ≡ c = cc in ap (λ x. LangTag x es ps) e
 langtag_is s c h = cc
 
--- extensions have at most 1025 subtags each: the singleton, and at most 1024 after it
+-- extensions with at most 1024 subtags after the singleton have at most 1025 subtags each
 pub few_subtags : (es : List ExtensionParts)
     → AllByRecursion (λ (e : ExtensionParts). length e.subtags ≤ longest_text) es
     → length (spell_extensions es) ≤ 1025 * length es
@@ -253,7 +254,8 @@ few_subtags [] h = omega arith
 few_subtags (e ∷ es) h =
     omega (arith, few_subtags es h.1, h.0, length-append (spell_extension e) (spell_extensions es))
 
--- a tag has at most 1024 extensions, none of which is longer than a text may be
+-- a tag whose parts are within the bounds has at most 1024 extensions, each with at most 1024 subtags after the
+-- singleton
 pub fits : (t : TagForm) → FitsCounts t → (length (extensions_of t) ≤ 1024)
     × AllByRecursion (λ (e : ExtensionParts). length e.subtags ≤ longest_text) (extensions_of t)
 fits (LangTag c es ps) h = (h.1, h.2)
@@ -271,7 +273,8 @@ module _ (R : List EntryParts) (t : TagForm) (step : Step) where
       → TagLeads R t step (LangTag c fs (private_of t))
   extensions_changed c fs h l = (on_extensions c (extensions_of t) fs (private_of t) (langtag_is t c h) refl l.0, l.1)
 
-  -- a step of another kind than Whole that leads on neither from the core nor from the extensions leads on nowhere
+  -- a step of another kind than Whole that leads on neither from the core nor from the extensions leads nowhere from
+  -- the tag
   pub kept : (c : CoreParts) → core_of t ≡ Some c → step.kind ≢ steps.Whole
       → ((d : CoreParts) → CoreLeads R 0 c step d → ⊥)
       → ((fs : List ExtensionParts) → ExtensionsLeads R (length (spell_core c)) (extensions_of t) step fs → ⊥)
@@ -284,19 +287,19 @@ module _ (R : List EntryParts) (t : TagForm) (step : Step) where
       (sym (ap extensions_of from)) (s, h)))
   kept c e k none nowhere u (on_whole _ _, h) = k (sym (ap (λ (x : Step). x.kind) h))
 
-  -- what a Whole step to `u` needs: the place 1, a tag that can be replaced, and its value by the record with the
-  -- step's number
+  -- what a Whole step to `u` needs: the place 1, a tag that can be replaced as a whole, and `u` as its value by the
+  -- record with the step's number
   pub record WholeLeads (u : TagForm) : Type 0 where
     pub place : step.place ≡ 1
     pub plain : CanBeReplacedWhole t
     pub value : IsWholeValueBy R t step.number u
 
-  -- a Whole step with what `WholeLeads` tells leads to `u`
+  -- a Whole step leads to `u`, if it has what `WholeLeads` says
   pub from_whole : step.kind ≡ steps.Whole → (u : TagForm) → WholeLeads u → TagLeads R t step u
   from_whole k u w = (on_whole w.plain w.value.has, same_step _ _ _ step k w.place (sym w.value.by))
 
   module _ (P : IsProper R t) where
-    -- a step leads from a proper tag to one result
+    -- two results of a step from a proper tag are equal
     same_end : (u v : TagForm) → TagLeads R t step u → TagLeads R t step v → u ≡ v
     same_end u v l m = (tag_end R step step (record { kind = refl; place = refl }) t u v P.parts l m).result
 
@@ -308,13 +311,13 @@ module _ (R : List EntryParts) (t : TagForm) (step : Step) where
     pub not_proper : (v : TagForm) → TagLeads R t step v → (IsProper R v → ⊥) → (u : TagForm) → LeadsBy R t step u → ⊥
     not_proper v l n u m = n (subst (IsProper R) (same_end u v (m.0.change, m.1) l) m.0.to)
 
-    -- `o` is what the step leads to, as a tag, or None where that is no value of the type Tag
+    -- if the step leads to `v`, and `o` is `v`, or None since no Tag can be `v`, then `o` is the right answer
     pub made : (v : TagForm) (o : Option TagForm) → TagLeads R t step v → MatchOption o (IsTagValue v → ⊥) (λ u. u ≡ v)
         → MatchOption o ((u : TagForm) → IsTagValue u → TagLeads R t step u → ⊥) (TagLeads R t step)
     made v None l h = λ u V m. valueless v l h u V m
     made v (Some u) l h = subst (TagLeads R t step) (sym h) l
 
--- an answer about all results is also one about the results of which `V` holds
+-- an answer about all values to which `L` leads is one about those of which `V` holds
 pub values_alone : {A E : Type 0} (L V : A → Type 0) (r : Result (Option A) E) → IfOk r (λ o. Changes L o)
     → IfOk r (λ o. MatchOption o ((u : A) → V u → L u → ⊥) L)
 values_alone L V (Ok None) h = λ u v l. h u l

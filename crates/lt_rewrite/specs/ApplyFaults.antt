@@ -1,4 +1,4 @@
--- Why a step can't be applied to a tag.
+-- The faults with which a step is not applied to a tag (`apply`): their names, and when each is a true answer.
 use Rattle.std.specs.Prelude.{ℕ, List, codes}
 use Rattle.lt_tag.specs.Parts.{TagForm}
 use Rattle.lt_registry.specs.Parts.{EntryParts}
@@ -16,7 +16,8 @@ fault_name_of faults.OutOfMemory = codes "OutOfMemory"
 abbrev pub no_memory : ApplyFault
 no_memory = faults.OutOfMemory
 
--- the fault is a true answer for a step on the tag `t`: NoSuchStep if the step leads nowhere, OutOfMemory always
+-- the fault is a true answer for a step on the tag `t`: NoSuchStep only if the step leads from `t` to no proper tag,
+-- OutOfMemory always
 abbrev pub IsApplyFault : List EntryParts → TagForm → Step → ApplyFault → Type 0
 IsApplyFault R t step faults.NoSuchStep = (u : TagForm) → LeadsBy R t step u → ⊥
 IsApplyFault R t step faults.OutOfMemory = Unit {0}

@@ -1,5 +1,5 @@
--- When the subtags of a core are at the ends of their chains, and which variant a VariantLanguage step drops (RFC 5646,
--- 4.5).
+-- When the subtags of a core are at the ends of their chains of values, and which variant a VariantLanguage step drops
+-- (RFC 5646, 4.5).
 use Rattle.std.specs.Prelude.{ℕ, ◌≡◌, ◌<◌, suc, List, ◌∷◌, ◌++◌, Some, None, All, IfSome, length, take, drop}
 use Rattle.std.specs.List.{AllByRecursion}
 use Rattle.lt_tag.specs.Parts.{CoreParts}
@@ -24,12 +24,12 @@ HasFinalRegion R c = IfSome c.region (λ s. preferred_value R kinds.Region s ≡
 abbrev pub HasFinalVariants : List EntryParts → CoreParts → Type 0
 HasFinalVariants R c = All (λ v. variant_value R v ≡ None) c.variants
 
--- no variant of a core has a VariantLanguage step beside the core's language
+-- no variant of a core has a language as its value and the core's language as a Prefix
 abbrev pub HasNoVariantLanguage : List EntryParts → CoreParts → Type 0
 HasNoVariantLanguage R c = All (λ v. language_beside R c.language v ≡ None) c.variants
 
--- the variant at an index is the leftmost with a VariantLanguage step beside the core's language, and the step makes
--- `m` the language
+-- the variant at an index is the leftmost that has a language as its value, `m`, and the core's language as a Prefix;
+-- so a VariantLanguage step drops this variant and makes `m` the language
 pub record IsFirstVariantLanguage (R : List EntryParts) (c : CoreParts) (index : ℕ) (m : List ℕ) : Type 0 where
   pub within : index < length c.variants
   pub variant : List ℕ

@@ -9,12 +9,12 @@ use Rattle.lt_registry.specs.Entries.{preferred_value, variant_value, language_v
 use Rattle.lt_registry.specs.declared.entries.Kind.TheVariants as kinds
 use Rattle.lt_rewrite.specs.Rewriting.{IsNormalForm}
 
--- The value of the variant `v`, if that is a language, and if the language `l` is one of the variant's Prefixes. A step
--- puts it in the place of `l` and drops the variant (this project's own).
+-- The value of the variant `v`, if that is a language, and if the language `l` is one of the variant's Prefixes; else
+-- None. A step puts it in the place of `l` and drops the variant (no RFC asks for that: it is a rule of this project).
 abbrev pub language_beside : List EntryParts → List ℕ → List ℕ → Option (List ℕ)
 language_beside R l v = if has_prefix (prefixes R kinds.Variant v) l then language_value R v else None
 
--- where a core step is taken; a variant by its index, counted from 0
+-- the spot at which a core step is taken; a variant is given by its index, counted from 0
 pub data Spot : Type 0 where
   at_extlang : Spot
   at_language : Spot
@@ -24,8 +24,8 @@ pub data Spot : Type 0 where
   -- a variant that is dropped, and whose preferred value takes the place of the language
   at_variant_language : ℕ → Spot
 
--- the subtag at a spot, if a step may be taken there (RFC 5646, 4.5, rule 3): an extlang only if it is the only one,
--- the language and a variant that replaces it only if there is no extlang
+-- The subtag at a spot, or None if no step may be taken there (RFC 5646, 4.5, rule 3): at an extlang only if it is the
+-- only one, at the language, and at a variant whose value becomes the language, only if there is no extlang.
 abbrev pub subtag_at : CoreParts → Spot → Option (List ℕ)
 subtag_at c at_extlang = if nat_eq (length c.extlangs) 1 then slice_get c.extlangs 0 else None
 subtag_at c at_language = if nat_eq (length c.extlangs) 0 then Some c.language else None
@@ -34,8 +34,9 @@ subtag_at c at_region = c.region
 subtag_at c (at_variant i) = slice_get c.variants i
 subtag_at c (at_variant_language i) = if nat_eq (length c.extlangs) 0 then slice_get c.variants i else None
 
--- the value that a step puts for the subtag at a spot (RFC 5646, 4.5, rule 3); a variant replaces the language only if
--- none further left could (this project's own)
+-- The value that a step puts for the subtag `s` at a spot, or None if it has none (RFC 5646, 4.5, rule 3). The value of
+-- a variant replaces the language only if that of no variant further left could (no RFC asks for that: it is a rule of
+-- this project).
 abbrev pub value_at : List EntryParts → CoreParts → Spot → List ℕ → Option (List ℕ)
 value_at R c at_extlang s = Some (replacement R s)
 value_at R c at_language s = preferred_value R kinds.Language s
@@ -45,8 +46,8 @@ value_at R c (at_variant i) s = variant_value R s
 value_at R c (at_variant_language i) s =
     let f = language_beside R c.language in if list_all (λ v. is_none (f v)) (take i c.variants) then f s else None
 
--- the core with a value for the subtag at a spot: as the language at `at_extlang` and `at_variant_language`, which drop
--- the subtag, else in the subtag's place (RFC 5646, 4.5, rule 3)
+-- The core with the value `v` for the subtag at a spot. At `at_extlang` and `at_variant_language` the subtag is
+-- dropped, and the value becomes the language; else the value is put in the subtag's place (RFC 5646, 4.5, rule 3).
 abbrev pub replaced : CoreParts → Spot → List ℕ → CoreParts
 replaced c at_extlang v = record c { language = v; extlangs = [] }
 replaced c at_language v = record c { language = v }
@@ -68,8 +69,8 @@ pub record CoreStep (R : List EntryParts) (c d : CoreParts) : Type 0 where
 abbrev pub IsCoreNormalForm : List EntryParts → CoreParts → CoreParts → Type 0
 IsCoreNormalForm R c d = IsNormalForm (CoreStep R) c d
 
--- the subtag `n` values on from `s`, or the last of the chain if that is shorter; `f` gives the value of each subtag
--- (RFC 5646, 3.1.7)
+-- the subtag to which `s` leads over `n` values, or the last one of the chain if that is shorter; `f` gives the value
+-- of each subtag (RFC 5646, 3.1.7)
 abbrev pub chase : (List ℕ → Option (List ℕ)) → ℕ → List ℕ → List ℕ
 chase f zero s = s
 chase f (suc n) s = option_map_or (λ t. chase f n t) (f s) s

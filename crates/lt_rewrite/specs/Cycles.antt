@@ -1,12 +1,12 @@
--- The record with the least number whose chain of values has no end (RFC 5646, 3.1.7), and orders in which records are
--- looked at.
+-- The record with the lowest number from whose value the chain of values has no end (RFC 5646, 3.1.7), and the orders
+-- in which records are looked at to find it.
 use Rattle.std.specs.Prelude.{ℕ, ◌≡◌, ◌<◌, ◌*◌, ◌%◌, ◌^◌, List, All, Contains}
 use Rattle.lt_registry.specs.Parts.{EntryParts}
 use Rattle.lt_rewrite.specs.Conditions.{HasEndingChain}
 use Rattle.lt_rewrite.specs.declared.cycles.Order.{Order}
 use Rattle.lt_rewrite.specs.declared.cycles.Order.TheVariants as orders
 
--- this is the least number of a record whose chain of values has no end
+-- this is the lowest number of a record from whose value the chain of values has no end
 pub record IsFirstCycle (R : List EntryParts) (number : ℕ) : Type 0 where
   pub entry : EntryParts
   pub there : Contains R entry
@@ -14,17 +14,17 @@ pub record IsFirstCycle (R : List EntryParts) (number : ℕ) : Type 0 where
   pub endless : HasEndingChain R entry → ⊥
   pub lower : All (λ f. f.number < number → HasEndingChain R f) R
 
--- the place that an order gives to the record with a number; Mixed has nothing to do with the order of the file, since
--- it takes multiples of 2^32 over the golden ratio (2654435769)
+-- The place that an order gives to the record with this number. In File it is the number itself. In Mixed it is the
+-- number times 2654435769, which is 2^32 over the golden ratio, modulo 2^32, and has nothing to do with the file.
 unfoldable pub place : Order → ℕ → ℕ
 place orders.File number = number
 place orders.Mixed number = number * 2654435769 % 2 ^ 32
 
--- the chains of all records whose place in an order is below `before` come to an end
+-- the chains from the values of all records whose place in an order is below `before` end
 abbrev pub EarlierEnd : List EntryParts → Order → ℕ → Type 0
 EarlierEnd R order before = All (λ f. place order f.number < before → HasEndingChain R f) R
 
--- if the chains of all records before the record `e` in an order end, the chain of `e` does; if this is true of every
--- record, all chains end
+-- if the chains from the values of all records before the record `e` in an order end, the chain from the value of `e`
+-- ends; if this is true of every record, all chains end
 abbrev pub EndsAfterEarlier : List EntryParts → Order → EntryParts → Type 0
 EndsAfterEarlier R order e = EarlierEnd R order (place order e.number) → HasEndingChain R e

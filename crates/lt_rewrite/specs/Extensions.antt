@@ -25,28 +25,31 @@ separator_cmp a b = text_cmp a.separator b.separator
 abbrev pub singleton_cmp : ExtensionParts → ExtensionParts → Ordering
 singleton_cmp a b = nat_cmp a.singleton b.singleton
 
--- the keyword `k`, between `before` and `after`, loses its only type, `true`, so that the keywords `p` become `q` (this
--- project's own)
+-- the keyword `k`, between `before` and `after`, loses its only type, `true`, so that the keywords `p` become `q` (no
+-- RFC asks for that: it is a rule of this project)
 pub record DropsTrue (before : List KeywordParts) (k : KeywordParts) (after : List KeywordParts)
     (p q : List KeywordParts) : Type 0 where
   pub there : p ≡ before ++ k ∷ after
   pub sole : k.types ≡ codes "true" ∷ []
   pub result : q ≡ before ++ record k { types = [] } ∷ after
 
--- one step on the parts of a u extension (RFC 6067, 2.1.1)
+-- one step on the parts of a `u` extension: an ordering step on its attributes or on its keywords, each of which may
+-- occur only once, or one that drops the only type `true` of a keyword (RFC 6067, 2.1.1)
 pub data UnicodeStep (p q : UForm) : Type 0 where
   on_attributes : ListStep true text_cmp p.attributes q.attributes → q.keywords ≡ p.keywords → UnicodeStep p q
   on_keywords : q.attributes ≡ p.attributes → ListStep true key_cmp p.keywords q.keywords → UnicodeStep p q
   on_types : q.attributes ≡ p.attributes → (before : List KeywordParts) (k : KeywordParts) (after : List KeywordParts) →
       DropsTrue before k after p.keywords q.keywords → UnicodeStep p q
 
--- one step on the parts of a t extension: on its source, or two fields change places (RFC 6497, 2.2 and 2.3)
+-- one step on the parts of a `t` extension: a core step on its source, or two fields change places (RFC 6497, 2.2 and
+-- 2.3)
 pub data TransformStep (R : List EntryParts) (p q : TForm) : Type 0 where
   on_source : (c d : CoreParts) → p.source ≡ Some c → q.source ≡ Some d → CoreStep R c d →
       q.fields ≡ p.fields → TransformStep R p q
   on_fields : q.source ≡ p.source → ListStep false separator_cmp p.fields q.fields → TransformStep R p q
 
--- one step inside an extension, on parts that spell its subtags (RFC 6067, 2.1.1; RFC 6497, 2.3)
+-- one step inside the `u` or the `t` extension `e`, which becomes `f`: a step from the parts `p`, which are those of
+-- `e`, to the parts `q`, which are those of `f` (RFC 6067, 2.1.1; RFC 6497, 2.3)
 pub data ExtensionStep (R : List EntryParts) (e f : ExtensionParts) : Type 0 where
   in_unicode : (p q : UForm) → e.singleton ≡ unicode → f.singleton ≡ e.singleton → IsUnicode e.subtags p →
       IsUnicode f.subtags q → UnicodeStep p q → ExtensionStep R e f

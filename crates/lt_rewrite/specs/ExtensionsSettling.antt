@@ -1,4 +1,4 @@
--- An extension among others that comes to its normal form (RFC 5646, 4.5).
+-- What a call that settles one extension among others gives: its index and its normal form (RFC 5646, 4.5).
 use Rattle.std.specs.Prelude.{ℕ, ◌≡◌, ◌<◌, List, Option, Some, None, length, slice_index_or, slice_set}
 use Rattle.std.specs.List.{AllByRecursion}
 use Rattle.lt_tag.specs.Parts.{ExtensionParts}
@@ -21,7 +21,7 @@ abbrev pub Settles : List EntryParts → ℕ → List ExtensionParts → Option 
 Settles R singleton es None = AllByRecursion (λ e. e.singleton ≡ singleton → Rests (ExtensionStep R) e) es
 Settles R singleton es (Some settled) = SettlesAt R singleton es settled.0 settled.1
 
--- the extensions, with the normal form that is given in the place of the one at its index; as they are if none is given
+-- the extensions `es` with the given extension put at its index, or as they are if none is given
 abbrev pub placed : Option (ℕ × ExtensionParts) → List ExtensionParts → List ExtensionParts
 placed None es = es
 placed (Some settled) es = slice_set es settled.0 settled.1

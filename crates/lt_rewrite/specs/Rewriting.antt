@@ -1,6 +1,8 @@
--- Steps of any kind: what they reach, where they end, what they make equivalent, and when they are confluent.
+-- Steps of any kind, where `Step a b` says that a step leads from `a` to `b`: what they reach, where they end, what
+-- they make equivalent, and when they are confluent.
 
--- steps lead from one value to another: none (`done`), one or more (`then`) (RFC 5646, 4.5)
+-- any number of steps lead from one value to another: none (`done`), or one and then any number (`then`) (RFC 5646,
+-- 4.5)
 pub data Star {A : Type 0} (Step : A → A → Type 0) : A → A → Type 0 where
   done : {a : A} → Star Step a a
   then : {a b c : A} → Step a b → Star Step b c → Star Step a c
@@ -20,7 +22,7 @@ pub data Equivalent {A : Type 0} (Step : A → A → Type 0) : A → A → Type 
   forth : {a b c : A} → Step a b → Equivalent Step b c → Equivalent Step a c
   back : {a b c : A} → Step b a → Equivalent Step b c → Equivalent Step a c
 
--- from any two values that steps reach from a value of which `P` is true, steps reach a common third, so that the order
--- of steps doesn't matter
+-- if steps lead from a value of which `P` is true to two values, steps lead from both of them to a common third, so
+-- that the order of steps does not matter
 abbrev pub IsConfluent : {A : Type 0} → (A → Type 0) → (A → A → Type 0) → Type 0
 IsConfluent {A} P Step = (a b c : A) → P a → Star Step a b → Star Step a c → (d : A) × Star Step b d × Star Step c d

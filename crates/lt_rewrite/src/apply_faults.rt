@@ -1,5 +1,5 @@
-//! Why a step is not applied. `output` is what is printed of a fault, and `from_gives` which fault `?` makes of
-//! another.
+//! Why a step is not applied. The clause `output` gives the text that is printed of a fault, and `from_gives` the fault
+//! that `?` makes of `OutOfMemory`.
 ghost use Rattle.std.specs.Prelude.{◌≡◌, Some};
 ghost use Rattle.lt_rewrite.specs.ApplyFaults.{fault_name_of, no_memory};
 
@@ -9,8 +9,8 @@ use std::fmt;
 /// Why a step is not applied to a tag.
 #[derive(Clone, Copy, Debug, Drop, PartialEq, Eq)]
 pub enum ApplyFault {
-    /// The step, by its kind, its place and the number of its record, leads from the tag nowhere, or to no
-    /// proper tag.
+    /// No step with this kind, this place and this number of a record leads from the tag to a proper tag: one
+    /// that is valid, except that a variant may occur twice.
     NoSuchStep,
     /// A growth of memory was refused.
     OutOfMemory,
@@ -38,7 +38,7 @@ impl fmt::Display for ApplyFault {
 
 impl std::error::Error for ApplyFault {}
 
-/// Running out of memory as a fault.
+/// Running out of memory becomes the fault `OutOfMemory`.
 impl From<OutOfMemory> for ApplyFault {
     ghost from_gives = { λ _ fault. fault ≡ no_memory };
 

@@ -1,9 +1,10 @@
-//! One step on a tag (RFC 5646, 4.5; RFC 6067; RFC 6497), given by its kind, its place and the number of its record. It
-//! leads from a tag, or from a part of one, to what it makes of that.
+//! One step on a tag (RFC 5646, 4.5; RFC 6067; RFC 6497), given by its kind, its place and the number of its record. A
+//! step leads from a tag, or from a part of a tag, to what it makes of that tag or part; it leads nowhere if there is
+//! no step of this kind, at this place and by this record.
 //!
-//! A clause `Changes`, or the `MatchOption` that says the same, has two halves: what is answered is where the step
-//! leads, and None says that it leads nowhere. 1,100,000 is a round number above the 1,050,630 subtags that a tag may
-//! have before its private use, so that places are `u32`.
+//! A clause `Changes`, or a `MatchOption` that says the same, has two halves: a value that is given is one to which the
+//! step leads, and None means that it leads nowhere. 1,100,000 is a round number above the 1,050,630 subtags that a tag
+//! may have before its private use, so places fit in a `u32`.
 ghost use Rattle.std.specs.Prelude.{◌≡◌, ◌≢◌, ◌≤◌, ◌+◌, List, Some, IfOk, IfErr, MatchOption, length};
 ghost use Rattle.lt_tag.specs.Parts.{CoreParts, ExtensionParts, TagForm, LangTag};
 ghost use Rattle.lt_tag.specs.Spelling.{spell_extensions};
@@ -26,8 +27,8 @@ use lt_subtag::Subtag;
 use lt_tag::{Core, Extension, OutOfMemory, Tag, copy_extensions, copy_subtags};
 use std::alloc::Global;
 
-/// The preferred value of a whole tag. None if the tag has no record, if the record has another number, or if it has no
-/// value.
+/// The preferred value of a whole tag, from the record with this number. None if the tag has no record, if its record
+/// has another number, or if the record has no value.
 fn whole_value_by<'a, L: Lookup>(table: &'a L, tag: &Tag, number: u32) -> Option<&'a Tag>
     ensures { MatchOption result
         ((other : TagForm) → IsWholeValueBy (L.listed table.now) tag.now number other → ⊥)
@@ -40,8 +41,8 @@ fn whole_value_by<'a, L: Lookup>(table: &'a L, tag: &Tag, number: u32) -> Option
     tag_value(entry)
 }
 
-/// The tag to which `step`, which must be a Whole step, leads: the preferred value of the whole tag. None if it leads
-/// nowhere. Refused only where memory runs out.
+/// The tag to which `step`, which must be a Whole step, leads: the preferred value of the whole tag. None if the step
+/// leads nowhere. Refused only where memory runs out.
 fn change_whole<L: Lookup>(
     alloc: Global,
     table: &L,
@@ -63,7 +64,8 @@ fn change_whole<L: Lookup>(
     }
 }
 
-/// The core that a step makes of the core of a tag. None if it leads nowhere. Refused only where memory runs out.
+/// The core that a step makes of the core of a tag. None if the step leads nowhere from this core. Refused only where
+/// memory runs out.
 fn change_core<L: Lookup>(
     alloc: Global,
     table: &L,
@@ -80,8 +82,9 @@ fn change_core<L: Lookup>(
     }
 }
 
-/// The extensions that a step makes of those of a tag, which begin after `start` subtags. `start` and their subtags
-/// must be at most 1,100,000 together. None if the step leads nowhere. Refused only where memory runs out.
+/// The extensions that a step makes of those of a tag, which begin after `start` subtags. `start` and the number of
+/// their subtags must be at most 1,100,000 together. None if the step leads nowhere from these extensions. Refused only
+/// where memory runs out.
 fn change_extensions<L: Lookup>(
     alloc: Global,
     table: &L,
@@ -102,9 +105,9 @@ fn change_extensions<L: Lookup>(
     }
 }
 
-/// The core and the extensions that a step makes of those of the langtag `tag`; these are at most 1,024
-/// (`longest_text`), as `langtag` asks. `core` must be the core of the tag, and the step no Whole step. None if it
-/// leads nowhere. Refused only where memory runs out.
+/// The core and the extensions that a step makes of those of the langtag `tag`. There are at most 1,024 extensions
+/// (`longest_text`), as `langtag` asks. `core` must be the core of the tag, and `step` must not be a Whole step. None
+/// if the step leads nowhere. Refused only where memory runs out.
 fn change_parts<L: Lookup>(
     alloc: Global,
     table: &L,
@@ -128,8 +131,8 @@ fn change_parts<L: Lookup>(
     }
 }
 
-/// The langtag of these parts. There must be at most 1,024 extensions and as many subtags of private use. None if it
-/// spells a grandfathered tag, which is no langtag (RFC 5646, 2.2.8).
+/// The langtag of these parts. There must be at most 1,024 extensions and at most 1,024 subtags of private use. None if
+/// the parts spell a grandfathered tag, which no `Tag` holds as a langtag (RFC 5646, 2.2.8).
 fn langtag(core: Core, extensions: Vec<Extension>, private: Vec<Subtag>) -> Option<Tag>
     requires few_extensions { length extensions.items ≤ longest_text }
     requires few_private { length private.items ≤ longest_text }
@@ -143,9 +146,9 @@ fn langtag(core: Core, extensions: Vec<Extension>, private: Vec<Subtag>) -> Opti
     Some(Tag::from_parts(core, extensions, private))
 }
 
-/// The tag to which a step leads from a tag, which must be proper; the one to which it leads need not be. None if the
-/// step leads nowhere, or to what spells a grandfathered tag, so that no `Tag` is it (`IsTagValue`). Refused only where
-/// memory runs out.
+/// The tag to which a step leads from `tag`, which must be proper; the tag to which it leads need not be proper. None
+/// if the step leads nowhere, or only to a langtag that spells a grandfathered tag, which no `Tag` can be
+/// (`IsTagValue`). Refused only where memory runs out.
 fn change<L: Lookup>(
     alloc: Global,
     table: &L,
@@ -172,9 +175,10 @@ fn change<L: Lookup>(
     }
 }
 
-/// The tag to which a step leads from a proper tag (RFC 5646, 4.5): Ok exactly where it leads to a proper tag,
-/// which is then the only one. `NoSuchStep` comes exactly where the step, by its kind, its place and the number
-/// of its record, leads to none; `OutOfMemory` where memory runs out. The tag stays as it is.
+/// The tag to which a step leads from `tag` (RFC 5646, 4.5). `tag` must be proper: valid, except that a variant
+/// may occur twice. Unless memory runs out, it is Ok exactly if the step leads to a proper tag, which is then the
+/// only one. Refused with `NoSuchStep` exactly if no step of this kind, at this place and by the record with this
+/// number leads to a proper tag, and with `OutOfMemory` where memory runs out. `tag` stays as it is.
 pub fn apply<L: Lookup>(alloc: Global, table: &L, tag: &Tag, step: &Step) -> Result<Tag, ApplyFault>
     requires { IsProper (L.listed table.now) tag.now }
     ensures ok { IfOk result (λ changed. LeadsBy (L.listed table.now) tag.now step.now changed) }

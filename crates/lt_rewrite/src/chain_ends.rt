@@ -1,5 +1,5 @@
-//! Chains of values: each subtag's value, that one's value, and so on (RFC 5646, 3.1.7). A clause `form` says that the
-//! answer has the form of its kind where the subtag has, since a core takes no other subtag.
+//! Chains of values: a subtag, its preferred value, the value of that value, and so on (RFC 5646, 3.1.7). A clause
+//! `form` says that the answer has the form of its kind if the subtag has, since a core takes no other subtag.
 ghost use Rattle.std.specs.Prelude.{◌≡◌, true, Some, IfSome, IfOk, OnErr, codes};
 ghost use Rattle.std.specs.Option.{option_copied};
 ghost use Rattle.lt_subtag.specs.Shapes.{is_language, is_extlang};
@@ -37,8 +37,9 @@ impl fmt::Display for Cycle {
 
 impl std::error::Error for Cycle {}
 
-/// The value of an entry that follows in a chain of values of this kind; in a chain of variants only variants follow.
-/// None if the entry has no such value, or if the kind is that of extlangs or of whole tags, which have no chains.
+/// The value of an entry that comes next in a chain of values of this kind; in a chain of variants only a variant can
+/// come next. None if the entry has no such value, or if the kind is Extlang or one of whole tags, which have no
+/// chains.
 pub(crate) fn following(kind: Kind, entry: &Entry) -> Option<&Subtag>
     ensures { option_copied result ≡ following kind entry.now }
 {
@@ -52,7 +53,7 @@ pub(crate) fn following(kind: Kind, entry: &Entry) -> Option<&Subtag>
     }
 }
 
-/// The value that follows a subtag in a chain of values, or None if the chain ends there.
+/// The value that comes next after a subtag in a chain of values of this kind, or None if the chain ends there.
 pub(crate) fn next_value<'a, L: Lookup>(
     table: &'a L,
     kind: Kind,
@@ -66,8 +67,8 @@ pub(crate) fn next_value<'a, L: Lookup>(
     }
 }
 
-/// The end of the chain of values of a kind that begins with a subtag. If it ends, it does so within as many values as
-/// there are entries; else it is refused with `Cycle`.
+/// The end of the chain of values of a kind that begins with a subtag. A chain that ends does so within as many values
+/// as there are entries. Refused with `Cycle` exactly if the chain has no end.
 #[tactic(auto, using(crate::proofs::ChainWalks::walk_ends, crate::proofs::ChainWalks::end_form))]
 pub(crate) fn end_of_chain<L: Lookup>(
     table: &L,
@@ -104,13 +105,13 @@ pub(crate) fn replacement<L: Lookup>(table: &L, extlang: &Subtag) -> Subtag
     }
 }
 
-/// Where the chain of values that begins with a subtag of a kind comes to an end: the subtag that no value
-/// follows (RFC 5646, 3.1.7). If `a` has the value `b`, and `b` the value `c`, which has none, that is `c`.
-/// From a variant only variants follow. In place of an extlang the chain begins with the language that replaces
-/// it, which is the extlang itself where it has no value or no entry.
+/// The end of the chain of values that begins with a subtag of a kind: the subtag that no value follows
+/// (RFC 5646, 3.1.7). If `a` has the value `b`, and `b` the value `c`, which has no value, the end is `c`.
+/// After a variant only variants follow. In place of an extlang the chain begins with the language that replaces
+/// it, which is the extlang itself if it has no value or no entry.
 ///
-/// Refused exactly where the chain has no end. Takes no memory; it looks up at most one subtag more than there
-/// are entries.
+/// Refused with `Cycle` exactly if the chain has no end. Takes no memory. It makes at most one look-up more than
+/// there are entries, and one for an extlang.
 #[tactic(auto, using(crate::proofs::ChainWalks::own_end, crate::proofs::ChainWalks::own_cycle))]
 pub fn chain_end<L: Lookup>(table: &L, kind: Kind, subtag: &Subtag) -> Result<Subtag, Cycle>
     ensures end { IfOk result (λ end. ChainEndsIn (L.listed table.now) kind subtag.now end) }

@@ -1,7 +1,7 @@
-//! One replacement on a core: that of a kind, at a place, by a record (RFC 5646, 4.5). A place is the number of a
-//! subtag in the tag, counted from 1. `Answers` says of a call that takes a step: true if it leads from the core before
-//! to the core after, and false if it leads nowhere. 1,200,000 is a round number above the 1,050,630 subtags that a tag
-//! may have before its private use, so that places are `u32`.
+//! One step on a core, given by its kind, its place and the number of its record (RFC 5646, 4.5). A place is the number
+//! of a subtag in the tag, counted from 1. A clause `Answers` says of a call that takes a step: it gives true if the
+//! step leads from the core before the call to the core after it, and false if the core has no such step. 1,200,000 is
+//! a round number above the 1,050,630 subtags that a tag may have before its private use, so places fit in a `u32`.
 ghost use Rattle.std.specs.Prelude.{◌≡◌, ◌≤◌, ◌<◌, ◌+◌, ℕ, List, true, IfSome, MatchOption, length};
 ghost use Rattle.lt_registry.specs.Entries.{entry, number_of, has_value_form};
 ghost use Rattle.lt_registry.specs.Faults as faults;
@@ -16,7 +16,7 @@ use lt_registry::{Kind, Lookup};
 use lt_subtag::Subtag;
 use lt_tag::Core;
 
-/// The number of the record of a subtag, or 0 if it has none. A step names its record by this number.
+/// The number of the record of a subtag of this kind, or 0 if it has none. A step names its record by this number.
 pub(crate) fn record_number<L: Lookup>(table: &L, kind: Kind, subtag: &Subtag) -> u32
     ensures { result ≡ number_of (entry (L.listed table.now) kind subtag.now) }
 {
@@ -26,8 +26,8 @@ pub(crate) fn record_number<L: Lookup>(table: &L, kind: Kind, subtag: &Subtag) -
     }
 }
 
-/// The preferred value of a subtag. None if the subtag has no record, if the record has another number, or if it has no
-/// value.
+/// The preferred value of a subtag of this kind, from the record with this number. None if the subtag has no record of
+/// the kind, if its record has another number, or if the record has no value.
 fn value_by<'a, L: Lookup>(
     table: &'a L,
     kind: Kind,
@@ -45,7 +45,7 @@ fn value_by<'a, L: Lookup>(
     }
 }
 
-/// How many subtags of a core are before its script: the language and up to 3 extlangs.
+/// How many subtags of a core are before its script, or where one would be: the language and up to 3 extlangs.
 pub(crate) fn before_script(core: &Core) -> usize
     ensures value { result ≡ faults.before_script core.now }
     ensures few { result ≤ 4 }
@@ -53,7 +53,7 @@ pub(crate) fn before_script(core: &Core) -> usize
     1 + core.extlangs().len()
 }
 
-/// How many subtags of a core are before its region: up to 4, and the script.
+/// How many subtags of a core are before its region, or where one would be: up to 4, and the script if there is one.
 pub(crate) fn before_region(core: &Core) -> usize
     ensures value { result ≡ faults.before_region core.now }
     ensures few { result ≤ 5 }
@@ -64,7 +64,7 @@ pub(crate) fn before_region(core: &Core) -> usize
     }
 }
 
-/// How many subtags of a core are before its variants: up to 5, and the region.
+/// How many subtags of a core are before its variants: up to 5, and the region if there is one.
 pub(crate) fn before_variants(core: &Core) -> usize
     ensures value { result ≡ faults.before_variants core.now }
     ensures few { result ≤ 6 }
@@ -91,8 +91,8 @@ fn variant_at(core: &Core, start: usize, place: u32) -> Option<usize>
     Some(place - before)
 }
 
-/// Takes an Extlang step, which `step` must be: the replacement of the only extlang becomes the language. False, and
-/// nothing changes, if the core has no such step. The core begins after `start` subtags, at most 1,200,000.
+/// Takes `step`, which must be an Extlang step: the only extlang is dropped, and its replacement becomes the language.
+/// False, and nothing changes, if the core has no such step. The core begins after `start` subtags, at most 1,200,000.
 fn replace_extlang<L: Lookup>(table: &L, core: &mut Core, start: usize, step: Step) -> bool
     requires kind { step.kind ≡ kinds.Extlang }
     requires few { start ≤ 1200000 }
@@ -113,8 +113,8 @@ fn replace_extlang<L: Lookup>(table: &L, core: &mut Core, start: usize, step: St
     true
 }
 
-/// Takes a Language step, which `step` must be: the language is replaced by its value. False, and nothing changes, if
-/// the core has no such step. The core begins after `start` subtags, at most 1,200,000.
+/// Takes `step`, which must be a Language step: the language is replaced by its value. False, and nothing changes, if
+/// the core has no such step; a core with extlangs has none. The core begins after `start` subtags, at most 1,200,000.
 fn replace_language<L: Lookup>(table: &L, core: &mut Core, start: usize, step: Step) -> bool
     requires kind { step.kind ≡ kinds.Language }
     requires few { start ≤ 1200000 }
@@ -135,7 +135,7 @@ fn replace_language<L: Lookup>(table: &L, core: &mut Core, start: usize, step: S
     }
 }
 
-/// Takes a Script step, which `step` must be: the script is replaced by its value. False, and nothing changes, if the
+/// Takes `step`, which must be a Script step: the script is replaced by its value. False, and nothing changes, if the
 /// core has no such step. The core begins after `start` subtags, at most 1,200,000.
 fn replace_script<L: Lookup>(table: &L, core: &mut Core, start: usize, step: Step) -> bool
     requires kind { step.kind ≡ kinds.Script }
@@ -157,7 +157,7 @@ fn replace_script<L: Lookup>(table: &L, core: &mut Core, start: usize, step: Ste
     }
 }
 
-/// Takes a Region step, which `step` must be: the region is replaced by its value. False, and nothing changes, if the
+/// Takes `step`, which must be a Region step: the region is replaced by its value. False, and nothing changes, if the
 /// core has no such step. The core begins after `start` subtags, at most 1,200,000.
 fn replace_region<L: Lookup>(table: &L, core: &mut Core, start: usize, step: Step) -> bool
     requires kind { step.kind ≡ kinds.Region }
@@ -179,7 +179,7 @@ fn replace_region<L: Lookup>(table: &L, core: &mut Core, start: usize, step: Ste
     }
 }
 
-/// Takes a Variant step, which `step` must be: a variant is replaced in its place by its value, which is a variant.
+/// Takes `step`, which must be a Variant step: a variant is replaced in its place by its value, which is a variant.
 /// False, and nothing changes, if the core has no such step. The core begins after `start` subtags, at most 1,200,000.
 fn replace_variant<L: Lookup>(table: &L, core: &mut Core, start: usize, step: Step) -> bool
     requires kind { step.kind ≡ kinds.Variant }
@@ -200,9 +200,9 @@ fn replace_variant<L: Lookup>(table: &L, core: &mut Core, start: usize, step: St
     true
 }
 
-/// Takes a VariantLanguage step, which `step` must be. The leftmost variant that has a language as its value, and the
+/// Takes `step`, which must be a VariantLanguage step: the leftmost variant that has a language as its value, and the
 /// core's language as a Prefix, is dropped, and its value becomes the language. False, and nothing changes, if the core
-/// has no such step. The core begins after `start` subtags, at most 1,200,000.
+/// has no such step; a core with extlangs has none. The core begins after `start` subtags, at most 1,200,000.
 fn apply_variant_language<L: Lookup>(table: &L, core: &mut Core, start: usize, step: Step) -> bool
     requires kind { step.kind ≡ kinds.VariantLanguage }
     requires few { start ≤ 1200000 }
@@ -226,7 +226,7 @@ fn apply_variant_language<L: Lookup>(table: &L, core: &mut Core, start: usize, s
 }
 
 /// Takes a step on a core that begins after `start` subtags, at most 1,200,000. False, and nothing changes, if the core
-/// has no such step.
+/// has no step of this kind, at this place and by this record.
 pub(crate) fn apply_to_core<L: Lookup>(table: &L, core: &mut Core, start: usize, step: Step) -> bool
     requires { start ≤ 1200000 }
     ensures { Answers (CoreLeads (L.listed table.now) start core.old step) core.new result }

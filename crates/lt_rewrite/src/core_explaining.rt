@@ -1,6 +1,6 @@
 //! The steps to the core normal form, one after another (RFC 5646, 4.5): Extlang before Language, Script, Region, the
 //! leftmost Variant and VariantLanguage. The rank of a kind of step is its number in this order (`rank_of`). A function
-//! `.._step` answers the leftmost step of its rank that leads on from the core, and None if none does.
+//! `.._step` gives the leftmost step of its rank that leads on from the core, and None if there is no such step.
 ghost use Rattle.std.specs.Prelude.{◌≡◌, ◌≤◌, All, IfOk, MatchOption};
 ghost use Rattle.lt_rewrite.specs.Conditions.{HasEndingChain};
 ghost use Rattle.lt_rewrite.specs.Applying.{CoreLeads};
@@ -109,8 +109,8 @@ fn variant_step<L: Lookup>(table: &L, core: &Core, start: usize) -> Option<Step>
     None
 }
 
-/// The step of the leftmost variant that has a language as its value and the core's language as a Prefix. The core
-/// begins after `start` subtags, at most 1,200,000. None if there is no such variant, or if there are extlangs.
+/// The step that drops the leftmost variant which has a language as its value and the core's language as a Prefix. The
+/// core begins after `start` subtags, at most 1,200,000. None if there is no such variant, or if there are extlangs.
 fn variant_language_step<L: Lookup>(table: &L, core: &Core, start: usize) -> Option<Step>
     requires { start ≤ 1200000 }
     ensures { MatchOption result
@@ -130,7 +130,8 @@ fn variant_language_step<L: Lookup>(table: &L, core: &Core, start: usize) -> Opt
     })
 }
 
-/// The first step on a core that begins after `start` subtags, at most 1,200,000. None if no step leads from it.
+/// The first step on a core that begins after `start` subtags, at most 1,200,000: the leftmost of the lowest rank. None
+/// if no step leads on from the core.
 fn first_core_step<L: Lookup>(table: &L, core: &Core, start: usize) -> Option<Step>
     requires { start ≤ 1200000 }
     ensures { MatchOption result
@@ -155,9 +156,9 @@ fn first_core_step<L: Lookup>(table: &L, core: &Core, start: usize) -> Option<St
     variant_language_step(table, core, start)
 }
 
-/// Takes the first step on a core, and goes on so until there is none (`at_rest`). It adds these steps to `steps`
-/// (`adds`). The core begins after `start` subtags, at most 1,200,000, and the chains of the registry must end. Refused
-/// only where memory runs out; some of the steps may have been taken then.
+/// Takes the first step on a core again and again, until there is none (`at_rest`). It adds these steps to `steps`
+/// (`adds`). The core begins after `start` subtags, at most 1,200,000, and the chains of values in the registry must
+/// end. Refused only where memory runs out; some of the steps may have been taken then.
 pub(crate) fn take_core_steps<L: Lookup>(
     table: &L,
     core: &mut Core,
@@ -176,10 +177,10 @@ pub(crate) fn take_core_steps<L: Lookup>(
     Ok(())
 }
 
-/// Takes the first step on a core, and goes on so until there is none. It gives back the core to which the steps lead,
-/// and `steps` with them at the end. The core begins after `start` subtags. The chains of the registry end, as they do
-/// where `first_cycle` is None. The only refusal is running out of memory. The bound 1,200,000 is above the subtags of
-/// every tag before its private use, at most 1,050,630, so that each place is a `u32`.
+/// Takes the first step on a core again and again, until there is none. It gives back the core to which the steps lead,
+/// and `steps` with these steps added at its end. The core begins after `start` subtags, at most 1,200,000: a tag has
+/// at most 1,050,630 subtags before its private use, so each place fits in a `u32`. The chains of values in the
+/// registry must end, as they do if `first_cycle` is None. The only refusal is running out of memory.
 pub fn explain_core<L: Lookup>(
     table: &L,
     mut core: Core,

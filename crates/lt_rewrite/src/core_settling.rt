@@ -1,7 +1,7 @@
 //! The core normal form (RFC 5646, 4.5). To settle a part of a core is to replace it by the end of its chain of values.
-//! The clauses of a function that does so tell it together: `reached`, that core steps lead from the core before to the
-//! core after; `at_rest` or one named after a part, that no value follows there; `others`, that no other part changes.
-//! A clause `form` says that a subtag has the form that the core asks for.
+//! A function that does so has three kinds of clauses. `reached` says that core steps lead from the core before the
+//! call to the core after it; `at_rest`, or a clause named after the part, that no value follows the part; and
+//! `others`, that no other part changes. A clause `form` says that a subtag has the form that the core asks for.
 ghost use Rattle.std.specs.Prelude.{◌≡◌, ◌<◌, ◌≤◌, ℕ, true, Some, None, [], ◌∷◌, List, All, IfSome, length, MatchOption};
 ghost use Rattle.std.specs.Option.{option_copied};
 ghost use Rattle.lt_subtag.specs.Shapes.{is_language};
@@ -23,8 +23,8 @@ use lt_registry::{Kind, Lookup};
 use lt_subtag::Subtag;
 use lt_tag::Core;
 
-/// The end of the chain of values that begins with a subtag. It is found by shortcuts if there are some. The chains of
-/// the registry must end, and the shortcuts be those of the table.
+/// The end of the chain of values of a kind that begins with a subtag. It is found by the shortcuts if some are given,
+/// which must be those of the table. The chains of values in the registry must end.
 fn certain_end<L: Lookup>(
     table: &L,
     shortcuts: Option<&Shortcuts>,
@@ -46,8 +46,8 @@ fn certain_end<L: Lookup>(
     }
 }
 
-/// Replaces the script, if there is one, by the end of its chain of values. The chains of the registry must end, and
-/// the shortcuts, if there are some, be those of the table.
+/// Replaces the script, if there is one, by the end of its chain of values. The chains of values in the registry must
+/// end, and the shortcuts, if some are given, must be those of the table.
 #[tactic(auto, using(crate::specs::Rewriting::done))]
 fn settle_script<L: Lookup>(table: &L, shortcuts: Option<&Shortcuts>, core: &mut Core)
     requires chains { All (HasEndingChain (L.listed table.now)) (L.listed table.now) }
@@ -62,8 +62,8 @@ fn settle_script<L: Lookup>(table: &L, shortcuts: Option<&Shortcuts>, core: &mut
     }
 }
 
-/// Replaces the region, if there is one, by the end of its chain of values. The chains of the registry must end, and
-/// the shortcuts, if there are some, be those of the table.
+/// Replaces the region, if there is one, by the end of its chain of values. The chains of values in the registry must
+/// end, and the shortcuts, if some are given, must be those of the table.
 #[tactic(auto, using(crate::specs::Rewriting::done))]
 fn settle_region<L: Lookup>(table: &L, shortcuts: Option<&Shortcuts>, core: &mut Core)
     requires chains { All (HasEndingChain (L.listed table.now)) (L.listed table.now) }
@@ -78,8 +78,8 @@ fn settle_region<L: Lookup>(table: &L, shortcuts: Option<&Shortcuts>, core: &mut
     }
 }
 
-/// Replaces each variant by the end of its chain of variants. The chains of the registry must end, and the shortcuts,
-/// if there are some, be those of the table.
+/// Replaces each variant by the end of its chain of variants. The chains of values in the registry must end, and the
+/// shortcuts, if some are given, must be those of the table.
 #[tactic(auto, using(crate::proofs::CoreSettling::none_settled))]
 fn settle_variants<L: Lookup>(table: &L, shortcuts: Option<&Shortcuts>, core: &mut Core)
     requires chains { All (HasEndingChain (L.listed table.now)) (L.listed table.now) }
@@ -94,8 +94,8 @@ fn settle_variants<L: Lookup>(table: &L, shortcuts: Option<&Shortcuts>, core: &m
     }
 }
 
-/// Makes the replacement of a sole extlang the language, and drops the extlang, so that there is no sole one
-/// (`at_rest`). Other numbers of extlangs stay.
+/// If the core has exactly one extlang, drops it and makes its replacement the language, so that there is no longer
+/// exactly one (`at_rest`). Two or more extlangs stay.
 #[tactic(auto, using(crate::specs::Rewriting::done))]
 fn settle_extlang<L: Lookup>(table: &L, core: &mut Core)
     ensures reached { Star (CoreStep (L.listed table.now)) core.old core.new }
@@ -109,8 +109,8 @@ fn settle_extlang<L: Lookup>(table: &L, core: &mut Core)
     }
 }
 
-/// Replaces the language of a core, which must have no extlangs, by the end of its chain of values. The chains of the
-/// registry must end, and the shortcuts, if there are some, be those of the table.
+/// Replaces the language of a core, which must have no extlangs, by the end of its chain of values. The chains of
+/// values in the registry must end, and the shortcuts, if some are given, must be those of the table.
 fn settle_language<L: Lookup>(table: &L, shortcuts: Option<&Shortcuts>, core: &mut Core)
     requires chains { All (HasEndingChain (L.listed table.now)) (L.listed table.now) }
     requires shortcuts { IfSome shortcuts (λ s. AreShortcuts (L.listed table.now) s.now) }
@@ -123,8 +123,8 @@ fn settle_language<L: Lookup>(table: &L, shortcuts: Option<&Shortcuts>, core: &m
     core.set_language(end);
 }
 
-/// The language to which a variant leads beside a language by a VariantLanguage step: the variant's value, if that is a
-/// language, and if `language` is one of the variant's Prefixes. Else None.
+/// The variant's value, if that is a language, and if `language` is one of the variant's Prefixes: a VariantLanguage
+/// step puts it in the place of `language`. None otherwise.
 fn variant_language<'a, L: Lookup>(
     table: &'a L,
     language: &Subtag,
@@ -142,8 +142,8 @@ fn variant_language<'a, L: Lookup>(
     }
 }
 
-/// The leftmost variant with a VariantLanguage step: its index, counted from 0, and the language to which it leads.
-/// None if no variant has one.
+/// The leftmost variant that a VariantLanguage step may drop: its index, counted from 0, and the language that the step
+/// puts. None if there is no such variant. It does not look at extlangs, with which a core has no such step.
 pub(crate) fn first_variant_language<L: Lookup>(table: &L, core: &Core) -> Option<(usize, Subtag)>
     ensures variant_language { MatchOption result
         (HasNoVariantLanguage (L.listed table.now) core.now)
@@ -159,9 +159,9 @@ pub(crate) fn first_variant_language<L: Lookup>(table: &L, core: &Core) -> Optio
 }
 
 /// Replaces the language of a core by the end of its chain of values. As long as there is a VariantLanguage step, it
-/// takes that, and follows the chain of the new language. The core must have no extlangs, and its variants must be at
-/// the ends of their chains. The chains of the registry must end, and the shortcuts, if there are some, be those of the
-/// table.
+/// takes that step, and follows the chain of the new language. The core must have no extlangs, and its variants must be
+/// at the ends of their chains. The chains of values in the registry must end, and the shortcuts, if some are given,
+/// must be those of the table.
 fn settle_variant_languages<L: Lookup>(table: &L, shortcuts: Option<&Shortcuts>, core: &mut Core)
     requires chains { All (HasEndingChain (L.listed table.now)) (L.listed table.now) }
     requires shortcuts { IfSome shortcuts (λ s. AreShortcuts (L.listed table.now) s.now) }
@@ -181,9 +181,10 @@ fn settle_variant_languages<L: Lookup>(table: &L, shortcuts: Option<&Shortcuts>,
     }
 }
 
-/// Replaces each of at most 256 variants by the end of its chain of variants, by the shortcuts of the table. To
-/// `places`, which must be empty, it adds for each variant the index of the entry of this end in the table. The chains
-/// of the registry must end. An array of 256 takes no memory from the allocator.
+/// Replaces each of at most 256 variants by the end of its chain of variants. To `places`, which must be empty, it adds
+/// for each variant the index of the end's entry in the table, or an index after the last entry if the end has none.
+/// The chains of values in the registry must end, and the shortcuts must be those of the table. An array of 256 indices
+/// takes no memory from the allocator.
 #[tactic(auto, using(crate::proofs::CoreSettling::none_settled, crate::proofs::CoreSettling::all_final))]
 fn settle_few_variants<L: Lookup>(
     table: &L,
@@ -208,9 +209,9 @@ fn settle_few_variants<L: Lookup>(
 }
 
 /// Replaces the variants, at most 256, by the ends of their chains of variants, and the language by the end of its
-/// chain, also after each VariantLanguage step, which it takes as long as there is one. By the shortcuts, which must be
-/// those of the table, each variant is looked up once. The core must have no extlangs, and the chains of the registry
-/// must end.
+/// chain. As long as there is a VariantLanguage step, it takes that step, and follows the chain of the new language.
+/// The variants are looked up only once, not again for each language. The core must have no extlangs, the chains of
+/// values in the registry must end, and the shortcuts must be those of the table.
 fn settle_few_variant_languages<L: Lookup>(table: &L, shortcuts: &Shortcuts, core: &mut Core)
     requires chains { All (HasEndingChain (L.listed table.now)) (L.listed table.now) }
     requires shortcuts { AreShortcuts (L.listed table.now) shortcuts.now }
@@ -233,11 +234,11 @@ fn settle_few_variant_languages<L: Lookup>(table: &L, shortcuts: &Shortcuts, cor
     }
 }
 
-/// Replaces the variants by the ends of their chains of variants, and the language by the end of its chain, also after
-/// each VariantLanguage step, which it takes as long as there is one. Without shortcuts, or with fewer than 16 or more
-/// than 256 variants, each variant is looked up again for each language: few are so quickly, and the array has room for
-/// the indices of 256 entries. The core must have no extlangs. The chains of the registry must end, and the shortcuts,
-/// if there are some, be those of the table.
+/// Replaces the variants by the ends of their chains of variants, and the language by the end of its chain. As long as
+/// there is a VariantLanguage step, it takes that step, and follows the chain of the new language. Without shortcuts,
+/// or with fewer than 16 or more than 256 variants, each variant is looked up again for each language: that is quick
+/// for a few, and the array has room for only 256. The core must have no extlangs. The chains of values in the registry
+/// must end, and the shortcuts, if some are given, must be those of the table.
 #[tactic(auto, using(crate::proofs::Stars::star_trans))]
 fn settle_all_variant_languages<L: Lookup>(
     table: &L,
@@ -265,8 +266,8 @@ fn settle_all_variant_languages<L: Lookup>(
     }
 }
 
-/// Puts a core into its core normal form, by shortcuts along the chains if there are some. The chains of the registry
-/// must end, and the shortcuts be those of the table.
+/// Puts a core into its core normal form, by the shortcuts if some are given, which must be those of the table. The
+/// chains of values in the registry must end.
 pub(crate) fn settle_along<L: Lookup>(table: &L, shortcuts: Option<&Shortcuts>, core: &mut Core)
     requires chains { All (HasEndingChain (L.listed table.now)) (L.listed table.now) }
     requires shortcuts { IfSome shortcuts (λ s. AreShortcuts (L.listed table.now) s.now) }
@@ -283,13 +284,14 @@ pub(crate) fn settle_along<L: Lookup>(table: &L, shortcuts: Option<&Shortcuts>, 
 }
 
 /// Puts a core into its core normal form (RFC 5646, 4.5): each subtag is replaced by the end of its chain of values,
-/// and a sole extlang by its replacement as the language. A variant beside a language that is one of its Prefixes is
-/// replaced by its value as the language, if that is one. A core with more extlangs keeps them and its language. The
-/// chains of the registry end, as they do where `first_cycle` is None.
+/// and the replacement of an only extlang becomes the language. A variant is dropped and its value becomes the
+/// language, if the value is a language and the core's language is one of the variant's Prefixes. A core with two or
+/// more extlangs keeps them and its language. The chains of values in the registry must end, as they do if
+/// `first_cycle` is None.
 ///
-/// Takes no memory. Each subtag is looked up once, and once more for each value that replaces it. Where the core has no
-/// extlang then, each variant is looked up once more for each language that the core comes to have, to find the
-/// VariantLanguage steps; [`Shortcuts::settle_core`] takes one search for each language.
+/// Takes no memory. Each subtag is looked up once, and once more for each value that replaces it. If the core then has
+/// no extlangs, each variant is looked up once more for each language that the core comes to have, to find the
+/// VariantLanguage steps. With 16 to 256 variants [`Shortcuts::settle_core`] saves these look-ups.
 pub fn settle_core<L: Lookup>(table: &L, core: &mut Core)
     requires { All (HasEndingChain (L.listed table.now)) (L.listed table.now) }
     ensures { IsCoreNormalForm (L.listed table.now) core.old core.new }

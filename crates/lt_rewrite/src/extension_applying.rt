@@ -1,10 +1,10 @@
-//! One step on extensions (RFC 5646, 4.5; RFC 6067; RFC 6497). `Changes` and `Answers` say to what the step leads, or
-//! that it leads nowhere. A step that uses no record is the same in each registry, so its clause speaks of every list
-//! `R` of entries.
+//! One step on extensions (RFC 5646, 4.5; RFC 6067; RFC 6497). The clauses `Changes` and `Answers` say that a call
+//! gives what the step leads to, and that None or false means that the step leads nowhere. A step that uses no record
+//! is the same in each registry, so its clause speaks of every list `R` of entries.
 //!
-//! The bounds keep places within a `u32`: a tag has at most 1,050,630 subtags before its private use. 1,100,000 is
-//! above that, and 1,150,000, for a singleton, and 1,200,000, for the parts of an extension, leave room for its
-//! subtags, at most 1,025.
+//! The bounds keep places within a `u32`. A tag has at most 1,050,630 subtags before its private use, and 1,100,000 is
+//! a round number above that. The place of a singleton may be at most 1,150,000, so that an extension, which has at
+//! most 1,025 subtags, ends below 1,200,000, the bound that `apply_to_transform` asks for.
 ghost use Rattle.std.specs.Prelude.{◌≡◌, ◌≤◌, ◌<◌, ◌+◌, ℕ, List, IfOk, MatchOption, length};
 ghost use Rattle.lt_tag.specs.Parts.{ExtensionParts};
 ghost use Rattle.lt_tag.specs.Spelling.{spell_extensions};
@@ -21,7 +21,7 @@ use lt_registry::Lookup;
 use lt_tag::{Extension, OutOfMemory, TransformFault, join_t, join_u, split_t, split_u};
 use std::alloc::Global;
 
-/// The extension that a step makes of one that must be a `u` extension, and whose singleton has the place `start`, at
+/// What a step makes of `extension`, which must be a `u` extension, and whose singleton is at the place `start`, at
 /// most 1,150,000. None if the step leads nowhere. Refused only where memory runs out.
 fn apply_in_unicode(
     alloc: Global,
@@ -40,8 +40,8 @@ fn apply_in_unicode(
     Ok(Some(join_u(alloc, &parts)?))
 }
 
-/// The extension that a step makes of one that must have the singleton `t`, at the place `start`, at most 1,150,000.
-/// None if the step leads nowhere, for example since the subtags are not those of a `t` extension. Refused only where
+/// What a step makes of `extension`, whose singleton must be `t`, and is at the place `start`, at most 1,150,000. None
+/// if the step leads nowhere, as every step does if the subtags are not those of a `t` extension. Refused only where
 /// memory runs out.
 fn apply_in_transform<L: Lookup>(
     alloc: Global,
@@ -67,9 +67,8 @@ fn apply_in_transform<L: Lookup>(
     Ok(Some(join_t(alloc, &parts)?))
 }
 
-/// The extension that a step makes of one whose singleton has the place `start`, at most 1,150,000. None if the step
-/// leads nowhere, which is true of every step on another extension than `u` and `t`. Refused only where memory runs
-/// out.
+/// What a step makes of `extension`, whose singleton is at the place `start`, at most 1,150,000. None if the step leads
+/// nowhere, as every step does on an extension other than `u` and `t`. Refused only where memory runs out.
 fn apply_to_extension<L: Lookup>(
     alloc: Global,
     table: &L,
@@ -90,9 +89,9 @@ fn apply_to_extension<L: Lookup>(
     Ok(None)
 }
 
-/// The index of the extension inside which a step acts, and what the step makes of that extension. None if it acts
-/// inside none. The extensions begin after `start` subtags, and `start` and their subtags must be at most 1,100,000
-/// together. Refused only where memory runs out.
+/// The index of the extension inside which a step acts, and what the step makes of that extension. None if the step
+/// acts inside none of them. The extensions begin after `start` subtags, and `start` and the number of their subtags
+/// must be at most 1,100,000 together. Refused only where memory runs out.
 fn find_change<L: Lookup>(
     alloc: Global,
     table: &L,
@@ -116,9 +115,9 @@ fn find_change<L: Lookup>(
     Ok(None)
 }
 
-/// Takes a SwapExtensions step, which `step` must be: two neighbouring extensions change places. False, and nothing
-/// changes, if there is no such step. The extensions begin after `start` subtags, and `start` and their subtags must be
-/// at most 1,100,000 together.
+/// Takes `step`, which must be a SwapExtensions step: two neighbouring extensions in falling order change places.
+/// False, and nothing changes, if there is no such step. The extensions begin after `start` subtags, and `start` and
+/// the number of their subtags must be at most 1,100,000 together.
 #[tactic(auto, using(crate::proofs::ExtensionLeading::swaps_answers))]
 fn swap_extensions(extensions: &mut Vec<Extension>, start: usize, step: Step) -> bool
     requires kind { step.kind ≡ kinds.SwapExtensions }
@@ -132,8 +131,9 @@ fn swap_extensions(extensions: &mut Vec<Extension>, start: usize, step: Step) ->
     swap_at(extensions, start, step.place)
 }
 
-/// Takes a step on extensions that begin after `start` subtags; `start` and their subtags must be at most 1,100,000
-/// together. False, and nothing changes, if there is no such step. Refused only where memory runs out.
+/// Takes a step on extensions: one inside one of them, or a SwapExtensions step. They begin after `start` subtags, and
+/// `start` and the number of their subtags must be at most 1,100,000 together. False, and nothing changes, if there is
+/// no such step. Refused only where memory runs out.
 pub(crate) fn apply_to_extensions<L: Lookup>(
     alloc: Global,
     table: &L,

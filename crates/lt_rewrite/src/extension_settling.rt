@@ -1,6 +1,6 @@
 //! The normal forms of `u` and `t` extensions (RFC 5646, 4.5; RFC 6067; RFC 6497). The clauses `shaped` and `few` say
-//! that parts which may be joined to an extension still may be: they keep their shapes, and have no more subtags than
-//! before.
+//! that parts which may be joined to an extension still may be: they keep their shapes (`shaped`), and have no more
+//! subtags than before (`few`).
 ghost use Rattle.std.specs.Prelude.{◌≡◌, ◌≤◌, List, All, IfSome, IsOk, map, length};
 ghost use Rattle.lt_tag.specs.Extensions.{spell_u, IsU, spell_t, IsT};
 ghost use Rattle.lt_rewrite.specs.Rewriting.{IsNormalForm};
@@ -17,7 +17,7 @@ use lt_registry::Lookup;
 use lt_tag::{Keyword, OutOfMemory, TParts, UParts};
 use std::alloc::Global;
 
-/// Takes the types from a keyword if they are exactly `true`, as of `kn-true`. Other types stay.
+/// Drops the types of a keyword if they are exactly `true`, as in `kn-true`. Other types stay.
 fn drop_true(keyword: &mut Keyword)
     ensures { keyword.new ≡ untrue keyword.old }
 {
@@ -28,18 +28,18 @@ fn drop_true(keyword: &mut Keyword)
     }
 }
 
-/// Does nothing when it runs. Its clause tells the proof of the caller that the entries of the table have their forms,
-/// and numbers that rise.
+/// Does nothing when it runs. Its clause tells the proof of the caller that the entries of the table have the forms of
+/// entries, and numbers that rise.
 pub(crate) fn recall_forms<L: Lookup>(table: &L)
     ensures { IsRegistry (L.listed table.now) }
 {
     let _entries = table.entries();
 }
 
-/// Puts the parts of a `u` extension into their normal form (RFC 6067, 2.1.1). Sole types `true` are dropped. Of equal
-/// attributes, and of keywords of one key, the first stays. Attributes and keywords come in their order, while the
-/// types of a keyword keep theirs. Parts that may be given to `join_u` still may be. It takes no memory, and so is
-/// never refused; `_alloc` is not used.
+/// Puts the parts of a `u` extension into their normal form (RFC 6067, 2.1.1). A type `true` is dropped if its keyword
+/// has no other. Of equal attributes, and of keywords of one key, only the first stays. The attributes, and the
+/// keywords by their keys, are put in order, while the types of a keyword keep their order. Parts that may be given to
+/// `join_u` still may be. It takes no memory, and so is never refused; `_alloc` is not used.
 pub fn settle_u(_alloc: Global, parts: &mut UParts) -> Result<(), OutOfMemory>
     ensures settled { IsNormalForm UnicodeStep parts.old parts.new }
     ensures shaped { IsU parts.old → IsU parts.new }
@@ -54,8 +54,8 @@ pub fn settle_u(_alloc: Global, parts: &mut UParts) -> Result<(), OutOfMemory>
     Ok(())
 }
 
-/// Puts the parts of a `t` extension into their normal form, by shortcuts along the chains if there are some. The
-/// chains of the registry must end, and the shortcuts be those of the table.
+/// Puts the parts of a `t` extension into their normal form, by the shortcuts if some are given, which must be those of
+/// the table. The chains of values in the registry must end.
 pub(crate) fn settle_transform<L: Lookup>(
     table: &L,
     shortcuts: Option<&Shortcuts>,
@@ -75,10 +75,10 @@ pub(crate) fn settle_transform<L: Lookup>(
     }
 }
 
-/// Puts the parts of a `t` extension into their normal form (RFC 6497, 2.2 and 2.3): the source comes into its core
-/// normal form, and the fields into the order of their separators. Fields of one separator keep their order, and so do
-/// the values of a field. Parts that may be given to `join_t` still may be. The chains of the registry end, as they do
-/// where `first_cycle` is None. It takes no memory, and so is never refused; `_alloc` is not used.
+/// Puts the parts of a `t` extension into their normal form (RFC 6497, 2.2 and 2.3): the source into its core normal
+/// form, and the fields into the order of their separators. Fields of one separator keep their order, and so do the
+/// values of a field. Parts that may be given to `join_t` still may be. The chains of values in the registry must end,
+/// as they do if `first_cycle` is None. It takes no memory, and so is never refused; `_alloc` is not used.
 pub fn settle_t<L: Lookup>(_alloc: Global, table: &L, parts: &mut TParts) -> Result<(), OutOfMemory>
     requires { All (HasEndingChain (L.listed table.now)) (L.listed table.now) }
     ensures settled { IsNormalForm (TransformStep (L.listed table.now)) parts.old parts.new }

@@ -1,7 +1,7 @@
 //! The steps on the extensions of a tag, one after another (RFC 5646, 4.5; RFC 6067; RFC 6497): the leftmost
-//! SwapExtensions before the steps in a `u` extension, on the source of a `t` extension, and on its fields. An
-//! extension is explained if it is in its normal form and the steps to that are added (`Explains`). Those in a `u`
-//! extension use no record, so that clause speaks of every list `R` of entries.
+//! SwapExtensions before the steps in a `u` extension, on the source of a `t` extension, and on its fields. A clause
+//! `Explains` says that an extension was brought to its normal form, and the steps to that form were added to `steps`.
+//! The steps in a `u` extension use no record, so their clause speaks of every list `R` of entries.
 ghost use Rattle.std.specs.Prelude.{◌≡◌, ◌≤◌, ◌+◌, List, All, IfOk, length, map, take};
 ghost use Rattle.std.specs.List.{AllByRecursion};
 ghost use Rattle.lt_tag.specs.Parts.{ExtensionParts, TForm};
@@ -25,8 +25,8 @@ use lt_registry::Lookup;
 use lt_tag::{Extension, OutOfMemory, TransformFault, join_t, join_u, split_t, split_u};
 use std::alloc::Global;
 
-/// How many subtags the extensions before an index have, their singletons among them. The index must be at most the
-/// number of extensions, which must have at most 1,100,000 subtags, as those of a tag have.
+/// How many subtags the extensions before an index have, their singletons included. The index must be at most the
+/// number of extensions, and all of them together must have at most 1,100,000 subtags, as those of a tag have.
 fn subtags_before(extensions: &[Extension], index: usize) -> usize
     requires within { index ≤ length extensions.now }
     requires few { length (spell_extensions extensions.now) ≤ 1100000 }
@@ -39,9 +39,9 @@ fn subtags_before(extensions: &[Extension], index: usize) -> usize
     count
 }
 
-/// The index of the `u` extension and its normal form, to which its steps lead; they are added to `steps`. None if
-/// there is no such extension. The extensions begin after `start` subtags, and `start` and their subtags must be at
-/// most 1,100,000 together. Refused only where memory runs out.
+/// The index of the `u` extension and its normal form. The steps that lead to that form are added to `steps`. None if
+/// there is no `u` extension. The extensions begin after `start` subtags, and `start` and the number of their subtags
+/// must be at most 1,100,000 together. Refused only where memory runs out.
 #[tactic(auto, using(crate::proofs::ExtensionRuns::few_before))]
 fn explained_unicode(
     alloc: Global,
@@ -61,10 +61,10 @@ fn explained_unicode(
     Ok(Some((index, join_u(alloc, &parts)?)))
 }
 
-/// The index of the `t` extension and its normal form, to which its steps lead; they are added to `steps`. None if
-/// there is no such extension. The extensions begin after `start` subtags, and `start` and their subtags must be at
-/// most 1,100,000 together. A `t` extension must have the form of one, and the chains of the registry must end. Refused
-/// only where memory runs out.
+/// The index of the `t` extension and its normal form. The steps that lead to that form are added to `steps`. None if
+/// there is no `t` extension. The extensions begin after `start` subtags, and `start` and the number of their subtags
+/// must be at most 1,100,000 together. A `t` extension must have the form of one (RFC 6497, 2.2), and the chains of
+/// values in the registry must end. Refused only where memory runs out.
 #[tactic(auto, using(crate::proofs::ExtensionRuns::few_before))]
 fn explained_transform<L: Lookup>(
     alloc: Global,
@@ -93,11 +93,12 @@ fn explained_transform<L: Lookup>(
     Ok(Some((index, join_t(alloc, &parts)?)))
 }
 
-/// Takes the first step on a list of extensions, and goes on so until there is none. It gives back the extensions to
-/// which the steps lead, and `steps` with them at the end. The extensions begin after `start` subtags. Each singleton
-/// occurs once, a `t` extension has the form of one, and the chains of the registry end, as they do where `first_cycle`
-/// is None. The bound 1,100,000 is above the subtags of every tag before its private use, at most 1,050,630, so that
-/// each place is a `u32`. Refused only where memory runs out.
+/// Takes the first step on a list of extensions again and again, until there is none. It gives back the extensions to
+/// which the steps lead, and `steps` with these steps added at its end. The extensions begin after `start` subtags, and
+/// `start` and the number of their subtags must be at most 1,100,000 together: a tag has at most 1,050,630 subtags
+/// before its private use, so each place fits in a `u32`. Each singleton must occur once, a `t` extension must have the
+/// form of one (RFC 6497, 2.2), and the chains of values in the registry must end, as they do if `first_cycle` is None.
+/// Refused only where memory runs out.
 pub fn explain_extensions<L: Lookup>(
     alloc: Global,
     table: &L,

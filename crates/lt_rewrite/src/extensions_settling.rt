@@ -1,5 +1,5 @@
-//! The normal form of a list of extensions (RFC 5646, 4.5; RFC 6067; RFC 6497). `Settles` says of an answer: an index
-//! with the normal form of the extension there, or None where there is nothing to change.
+//! The normal form of a list of extensions (RFC 5646, 4.5; RFC 6067; RFC 6497). A clause `Settles` says of an answer
+//! that it is an index and the normal form of the extension at that index, or None if there is nothing to change.
 ghost use Rattle.std.specs.Prelude.{◌≡◌, ◌<◌, ◌==◌, List, All, IfOk, OnErr, IfSome, length, map, position};
 ghost use Rattle.std.specs.List.{AllByRecursion};
 ghost use Rattle.lt_tag.specs.Parts.{ExtensionParts, TForm};
@@ -20,7 +20,7 @@ use lt_registry::Lookup;
 use lt_tag::{Extension, OutOfMemory, TransformFault, join_t, join_u, split_t, split_u};
 use std::alloc::Global;
 
-/// The index of the first extension of a singleton, or None if there is none.
+/// The index of the first extension with this singleton, or None if there is none.
 pub(crate) fn place_of(extensions: &[Extension], singleton: u8) -> Option<usize>
     ensures { result ≡ position (λ (e : ExtensionParts). e.singleton == singleton) extensions.now }
 {
@@ -29,8 +29,8 @@ pub(crate) fn place_of(extensions: &[Extension], singleton: u8) -> Option<usize>
         .position(|extension| extension.singleton() == singleton)
 }
 
-/// The index of the `u` extension, and its normal form. None if there is no such extension, or if its keys rise, which
-/// shows that it is in its normal form; neither takes memory. Its steps use no record, so the clause speaks of every
+/// The index of the `u` extension, and its normal form. None if there is no `u` extension, or if `keys_rise` shows that
+/// it is in its normal form as it is; then no memory is taken. Its steps use no record, so the clause speaks of every
 /// list `R` of entries. Each singleton must occur once. Refused only where memory runs out.
 #[tactic(auto, using(crate::proofs::ExtensionLaws::none_settles))]
 fn settled_unicode(
@@ -52,9 +52,9 @@ fn settled_unicode(
     Ok(Some((place, join_u(alloc, &parts)?)))
 }
 
-/// The index of the `t` extension, and its normal form, by shortcuts along the chains if there are some. None if there
-/// is no such extension. A `t` extension must have the form of one. The chains of the registry must end, and the
-/// shortcuts be those of the table. Refused only where memory runs out.
+/// The index of the `t` extension, and its normal form, by the shortcuts if some are given, which must be those of the
+/// table. None if there is no `t` extension. A `t` extension must have the form of one (RFC 6497, 2.2), and the chains
+/// of values in the registry must end. Refused only where memory runs out.
 #[tactic(auto, using(crate::proofs::ExtensionLaws::none_settles))]
 fn settled_transform<L: Lookup>(
     alloc: Global,
@@ -92,9 +92,9 @@ pub(crate) fn put_back(extensions: &mut Vec<Extension>, settled: Option<(usize, 
     }
 }
 
-/// Puts a list of extensions into its normal form, by shortcuts along the chains if there are some, which must be those
-/// of the table. Each singleton must occur once, a `t` extension must have the form of one, and the chains of the
-/// registry must end. Refused only where memory runs out; the list is then what it was.
+/// Puts a list of extensions into its normal form, by the shortcuts if some are given, which must be those of the
+/// table. Each singleton must occur once, a `t` extension must have the form of one (RFC 6497, 2.2), and the chains of
+/// values in the registry must end. Refused only where memory runs out; the list is then what it was.
 pub(crate) fn settle_all<L: Lookup>(
     alloc: Global,
     table: &L,
@@ -117,11 +117,11 @@ pub(crate) fn settle_all<L: Lookup>(
     Ok(())
 }
 
-/// Puts a list of extensions into its normal form (RFC 5646, 4.5, rule 1): the `u` and the `t` extension come
-/// to their normal forms, and the extensions to the order of their singletons. Each singleton occurs once, a `t`
-/// extension has the form of one, and the chains of the registry end, as they do where `first_cycle` is None.
-/// Memory is taken only for a `u` or a `t` extension. The only refusal is running out of memory; the list is
-/// then what it was.
+/// Puts a list of extensions into its normal form (RFC 5646, 4.5, rule 1): the `u` and the `t` extension into
+/// their normal forms, and the extensions into the order of their singletons. Each singleton must occur once, a
+/// `t` extension must have the form of one (RFC 6497, 2.2), and the chains of values in the registry must end, as
+/// they do if `first_cycle` is None. Memory is taken only for a `u` or a `t` extension. The only refusal is
+/// running out of memory; the list is then what it was.
 pub fn settle_extensions<L: Lookup>(
     alloc: Global,
     table: &L,

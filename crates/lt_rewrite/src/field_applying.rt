@@ -1,6 +1,6 @@
-//! One step on the parts of a `t` extension (RFC 5646, 4.5; RFC 6497). `Answers` says of a call that takes a step: true
-//! if it leads to the parts after it, and false if it leads nowhere. 1,200,000 is a round number above the places of a
-//! tag's subtags, so that they are `u32`.
+//! One step on the parts of a `t` extension (RFC 5646, 4.5; RFC 6497). A clause `Answers` says of a call that takes a
+//! step: it gives true if the step leads to the parts after the call, and false if there is no such step. 1,200,000 is
+//! a round number above the places of a tag's subtags, so they fit in a `u32`.
 ghost use Rattle.std.specs.Prelude.{◌≡◌, ◌≤◌, ◌+◌, List, length};
 ghost use Rattle.lt_tag.specs.Spelling.{spell_core};
 ghost use Rattle.lt_tag.specs.Extensions.{spell_t};
@@ -15,7 +15,7 @@ use crate::steps::{Step, StepKind};
 use lt_registry::Lookup;
 use lt_tag::{Core, TParts};
 
-/// How many subtags a core has (RFC 5646, 2.1): at least one, for its language, and at most 1,030.
+/// How many subtags a core has (RFC 5646, 2.1): at least one, its language, and at most 1,030.
 pub fn core_length(core: &Core) -> usize
     ensures value { result ≡ length (spell_core core.now) }
     ensures few { result ≤ 1030 }
@@ -34,9 +34,9 @@ pub(crate) fn source_length(source: &Option<Core>) -> usize
     }
 }
 
-/// Takes a SwapFields step, which `step` must be: two neighbouring fields change places. False, and nothing changes, if
-/// there is no such step. It uses no record, so the clause speaks of every list `R` of entries. The extension's
-/// singleton has the place `start`, and the last subtag must have one of at most 1,200,000.
+/// Takes `step`, which must be a SwapFields step: two neighbouring fields in falling order change places. False, and
+/// nothing changes, if there is no such step. It uses no record, so the clause speaks of every list `R` of entries. The
+/// extension's singleton is at the place `start`, and its last subtag must be at a place of at most 1,200,000.
 fn swap_fields(parts: &mut TParts, start: usize, step: Step) -> bool
     requires kind { step.kind ≡ kinds.SwapFields }
     requires few { start + length (spell_t parts.old) ≤ 1200000 }
@@ -50,8 +50,9 @@ fn swap_fields(parts: &mut TParts, start: usize, step: Step) -> bool
     swap_at(&mut parts.fields, first_field, step.place)
 }
 
-/// Takes a step on the parts of a `t` extension whose singleton has the place `start`, and whose last subtag must have
-/// one of at most 1,200,000. False, and nothing changes, if there is no such step.
+/// Takes a step on the parts of a `t` extension: one on its source, or a SwapFields step. The extension's singleton is
+/// at the place `start`, and its last subtag must be at a place of at most 1,200,000. False, and nothing changes, if
+/// there is no such step.
 pub(crate) fn apply_to_transform<L: Lookup>(
     table: &L,
     parts: &mut TParts,

@@ -1,5 +1,6 @@
-//! One step on the parts of a `u` extension (RFC 5646, 4.5; RFC 6067). `Answers` says of a call that takes a step: true
-//! if it leads to the parts after it, and false if it leads nowhere. Places are below 2^32, since they are `u32`.
+//! One step on the parts of a `u` extension (RFC 5646, 4.5; RFC 6067). A clause `Answers` says of a call that takes a
+//! step: it gives true if the step leads to the parts after the call, and false if there is no such step. Places must
+//! be below 2^32, since a step holds its place as a `u32`.
 ghost use Rattle.std.specs.Prelude.{◌≡◌, ◌<◌, ◌+◌, ◌^◌, [], ◌∷◌, MatchBool, length, flat_map, codes};
 ghost use Rattle.lt_tag.specs.Extensions.{spell_keyword, spell_u};
 ghost use Rattle.lt_rewrite.specs.Applying.{Answers, TrueLeads, UnicodeLeads};
@@ -25,9 +26,9 @@ pub(crate) fn drop_types(keyword: &mut Keyword)
     keyword.types.clear();
 }
 
-/// Takes the types from the keyword whose first type has this place, if they are exactly `true`. False, and nothing
-/// changes, if there is no such keyword. The keywords begin after `start` subtags, and the place after their last
-/// subtag must be below 2^32.
+/// Takes the only type, `true`, from the keyword whose key is right before this place. False, and nothing changes, if
+/// no key is there, or if the types of its keyword are not exactly `true`. The keywords begin after `start` subtags,
+/// and the place after their last subtag must be below 2^32.
 fn drop_true_at(keywords: &mut Vec<Keyword>, start: usize, place: u32) -> bool
     requires { start + 1 + length (flat_map spell_keyword keywords.old.items) < 2 ^ 32 }
     ensures { Answers (TrueLeads start place keywords.old.items) keywords.new.items result }
@@ -43,8 +44,9 @@ fn drop_true_at(keywords: &mut Vec<Keyword>, start: usize, place: u32) -> bool
     true
 }
 
-/// Takes a step on the parts of a `u` extension whose singleton has the place `start`. The place after its last subtag
-/// must be below 2^32. False, and nothing changes, if there is no such step.
+/// Takes a step on the parts of a `u` extension: two neighbours change places, or an attribute, a keyword or the only
+/// type `true` is dropped. The extension's singleton is at the place `start`, and the place after its last subtag must
+/// be below 2^32. False, and nothing changes, if there is no such step.
 pub(crate) fn apply_to_unicode(parts: &mut UParts, start: usize, step: Step) -> bool
     requires { start + 1 + length (spell_u parts.old) < 2 ^ 32 }
     ensures { Answers (UnicodeLeads start parts.old step) parts.new result }

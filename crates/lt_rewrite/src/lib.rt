@@ -1,5 +1,5 @@
-//! The steps that lead from a tag to its canonical form (RFC 5646, 4.5; RFC 6067; RFC 6497), over any table of
-//! entries. A program begins with the crate `bcp47`, whose `explain` and `verify` speak of these steps.
+//! The steps that lead from a tag to its canonical form (RFC 5646, 4.5; RFC 6067; RFC 6497), by any table of registry
+//! entries. Most programs need only the crate `bcp47`, whose `explain` and `verify` give and check these steps.
 #![tactic(auto)]
 
 mod apply_faults;

@@ -1,6 +1,6 @@
 //! One ordering step on a list of parts, at a place (RFC 5646, 4.5; RFC 6067; RFC 6497). A part is an attribute, a
-//! keyword, a field or an extension, and begins at the place of its first subtag. `Answers` says of a call that takes a
-//! step: true if it leads to the list after it, and false if it leads nowhere.
+//! keyword, a field or an extension, and begins at the place of its first subtag. A clause `Answers` says of a call
+//! that takes a step: it gives true if the step leads to the list after the call, and false if there is no such step.
 ghost use Rattle.std.specs.Prelude.{◌≡◌, ◌<◌, ◌≤◌, ◌+◌, ◌^◌, ℕ, List, [], ◌∷◌, MatchOption, MatchBool, length, flat_map};
 ghost use Rattle.std.proofs.Math.Nat.{zero-lt-suc};
 ghost use Rattle.lt_tag.specs.Extensions.{spell_keyword, spell_field};
@@ -79,8 +79,8 @@ pub(crate) fn index_at<P: Spelled>(parts: &[P], start: usize, place: u32) -> Opt
     None
 }
 
-/// Whether a part that is equal in the order to the part at an index is before it, so that a step may drop this one.
-/// The index must be within the list.
+/// Whether an earlier part is equal in the order to the part at an index, so that a step may drop the part at the
+/// index. The index must be within the list.
 pub(crate) fn has_like<P: Part>(parts: &[P], index: usize) -> bool
     requires { index < length parts.now }
     ensures { MatchBool result (HasLike P.order parts.now index) (HasLike P.order parts.now index → ⊥) }
@@ -93,8 +93,9 @@ pub(crate) fn has_like<P: Part>(parts: &[P], index: usize) -> bool
     false
 }
 
-/// Exchanges the part whose first subtag has this place and the next one, if they are in falling order. False, and
-/// nothing changes, if there is no such part. The list begins after `start` subtags, and the places must be below 2^32.
+/// Exchanges the part whose first subtag has this place and the next part, if they are in falling order. False, and
+/// nothing changes, if no part begins at this place, if it is the last one, or if the two are not in falling order. The
+/// list begins after `start` subtags, and the places must be below 2^32.
 pub(crate) fn swap_at<P: Spelled>(parts: &mut Vec<P>, start: usize, place: u32) -> bool
     requires { start + length (flat_map P.spell parts.old.items) < 2 ^ 32 }
     ensures { Answers (SwapLeads P.order P.spell start place parts.old.items) parts.new.items result }
@@ -114,8 +115,9 @@ pub(crate) fn swap_at<P: Spelled>(parts: &mut Vec<P>, start: usize, place: u32) 
     }
 }
 
-/// Drops the part whose first subtag has this place, if one before it is equal in the order. False, and nothing
-/// changes, if there is no such part. The list begins after `start` subtags, and the places must be below 2^32.
+/// Drops the part whose first subtag has this place, if an earlier one is equal to it in the order. False, and nothing
+/// changes, if no part begins at this place, or if no earlier one is equal to it. The list begins after `start`
+/// subtags, and the places must be below 2^32.
 pub(crate) fn drop_at<P: Spelled>(parts: &mut Vec<P>, start: usize, place: u32) -> bool
     requires { start + length (flat_map P.spell parts.old.items) < 2 ^ 32 }
     ensures { Answers (DropLeads P.order P.spell start place parts.old.items) parts.new.items result }

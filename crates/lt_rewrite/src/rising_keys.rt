@@ -1,5 +1,5 @@
-//! Keywords of a `u` extension that are in their normal form as they stand (RFC 6067, 2.1.1): their keys rise, and none
-//! has a type `true`. So no parts are split off and no memory is taken for such an extension.
+//! A quick test of a `u` extension for its normal form (RFC 6067, 2.1.1): it has only keywords, their keys rise, and
+//! none has a type `true`. Such an extension need not be split into parts, which would take memory.
 ghost use Rattle.std.specs.Prelude.{◌≡◌, None};
 ghost use Rattle.lt_rewrite.specs.RisingKeys as rising;
 
@@ -26,9 +26,10 @@ fn is_type(subtag: &Subtag) -> bool
     3 <= subtag.bytes().len() && subtag.bytes() != b"true".as_slice()
 }
 
-/// The last key of a `u` extension once a subtag follows it. That is the subtag if it is a key after the last one in
-/// the order of keys (RFC 6067, 2.1.1), or the last key if the subtag is a type of it other than `true`. None if the
-/// subtag is neither: then the extension may not be in its normal form. `last` is None before the first key.
+/// The last key of a `u` extension once one more subtag is read. That is the subtag if it is a key after the last one
+/// in the order of keys (RFC 6067, 2.1.1), or the last key if the subtag is a type other than `true`. `last` is None
+/// before the first key. None for any other subtag, for example a key that is not after the last one, a type `true`, or
+/// an attribute before the first key: then the extension may not be in its normal form.
 pub fn next_key(last: Option<Subtag>, subtag: Subtag) -> Option<Subtag>
     ensures { result ≡ rising.next_key last subtag }
 {
@@ -45,8 +46,8 @@ pub fn next_key(last: Option<Subtag>, subtag: Subtag) -> Option<Subtag>
     }
 }
 
-/// Whether the subtags of a `u` extension are keywords in the order of their keys, none of which has the type `true`.
-/// Such an extension is in its normal form; others may be too.
+/// Whether the subtags of a `u` extension are keywords with rising keys, none of which has a type `true`. Then the
+/// extension is in its normal form; one that fails this test may be so too.
 pub(crate) fn keys_rise(subtags: &[Subtag]) -> bool
     ensures { result ≡ rising.keys_rise None subtags.now }
 {

@@ -1,6 +1,7 @@
-//! Shortcuts along the chains of values of a table's records (RFC 5646, 3.1.7): for each record the place of one
-//! further on, whose value is the end of the chain. They are doubled in as many rounds as the number of records has
-//! binary digits, so that a cycle is found as fast as an end, however long the chains are.
+//! Shortcuts along the chains of values of a table's records (RFC 5646, 3.1.7): for each record the index of a record
+//! further on in its chain, whose value is the end of the chain. Each round makes them twice as long, and there are at
+//! most as many rounds as the number of records has binary digits. So a cycle is found as fast as an end, however long
+//! the chains are.
 ghost use Rattle.std.specs.Prelude.{◌≡◌, ◌+◌, ◌≤◌, ◌<◌, ◌||◌, true, false, Some, ℕ, List, All, IfOk, OnErr, Contains, length, map, IsTrue, ◌↔◌};
 ghost use Rattle.std.specs.List.{slice_get, AllByRecursion, AllWithin};
 ghost use Rattle.std.specs.List.Sorted.{IsNonDecreasingBy};
@@ -44,9 +45,9 @@ impl Model for Shortcuts {
 }
 
 impl Shortcuts {
-    /// The shortcuts of a table: for each record the place of one that is as many values on as there are
-    /// records, and so at the end of the chain, if it has one. They take a place for each record, and look
-    /// up each value once. Refused only where memory runs out.
+    /// The shortcuts of a table. For each record they have the index of a record whose value is at least as
+    /// many values further on as there are records, and so is the end of the chain, if it has one. They take
+    /// memory for one index for each record, and look up each value once. Refused only where memory runs out.
     pub fn of_table<L: Lookup>(alloc: Global, table: &L) -> Result<Shortcuts, AllocError>
         ensures { IfOk result (AreShortcuts (L.listed table.now)) }
     {
@@ -55,8 +56,8 @@ impl Shortcuts {
         })
     }
 
-    /// The subtag that is at least as many values on from a subtag as there are records: the end of its chain of
-    /// values, if that has one. The shortcuts must be those of the table.
+    /// The subtag to which a subtag leads over at least as many values as there are records, or over all values if its
+    /// chain is shorter. So it is the end of the chain, if that has one. The shortcuts must be those of the table.
     #[tactic(auto, using(std::proofs::lemmas::Option::slice_get_within, crate::proofs::ChainWalks::entry_there, crate::proofs::ShortcutWalks::onward_rest, crate::proofs::ShortcutWalks::entry_next, crate::proofs::ShortcutWalks::none_follows, crate::proofs::ChainWalks::next_by, crate::proofs::ShortcutWalks::led_to, crate::proofs::ShortcutWalks::led_far, crate::proofs::ShortcutWalks::some_follows))]
     fn further<'a, L: Lookup>(&self, table: &'a L, kind: Kind, subtag: &'a Subtag) -> &'a Subtag
         requires { AreShortcuts (L.listed table.now) self.now }
@@ -97,8 +98,8 @@ impl Shortcuts {
         }
     }
 
-    /// The end of the chain of values of a kind that begins with a subtag. The chains of the registry must end, and the
-    /// shortcuts be those of the table.
+    /// The end of the chain of values of a kind that begins with a subtag. The chains of values in the registry must
+    /// end, and the shortcuts must be those of the table.
     pub(crate) fn certain_end<L: Lookup>(&self, table: &L, kind: Kind, subtag: &Subtag) -> Subtag
         requires chains { All (HasEndingChain (L.listed table.now)) (L.listed table.now) }
         requires shortcuts { AreShortcuts (L.listed table.now) self.now }
@@ -108,7 +109,8 @@ impl Shortcuts {
         self.further(table, kind, subtag).copy()
     }
 
-    /// Whether the chain of values from a record's value ends. True of a record without value.
+    /// Whether the chain of values from a record's value ends. True of a record without a value, or with a whole tag as
+    /// its value. The shortcuts must be those of the table.
     pub fn has_end<L: Lookup>(&self, table: &L, entry: &Entry) -> bool
         requires { AreShortcuts (L.listed table.now) self.now }
         ensures { IsTrue result ↔ HasEndingChain (L.listed table.now) entry.now }
@@ -119,7 +121,9 @@ impl Shortcuts {
         }
     }
 
-    /// The answer of [`chain_end`](crate::chain_end), by the shortcuts of the table.
+    /// The end of the chain of values that begins with a subtag of a kind, as [`chain_end`](crate::chain_end) gives it,
+    /// in a few look-ups. The shortcuts must be those of the table. Refused with `Cycle` exactly if the chain has no
+    /// end.
     #[tactic(auto, using(crate::proofs::ChainWalks::own_end, crate::proofs::ChainWalks::own_cycle))]
     pub fn chain_end<L: Lookup>(
         &self,
@@ -138,7 +142,7 @@ impl Shortcuts {
     }
 
     /// Puts a core into its core normal form as [`settle_core`](crate::settle_core) does, by the
-    /// shortcuts of the table. The chains of the registry end.
+    /// shortcuts, which must be those of the table. The chains of values in the registry must end.
     pub fn settle_core<L: Lookup>(&self, table: &L, core: &mut Core)
         requires chains { All (HasEndingChain (L.listed table.now)) (L.listed table.now) }
         requires shortcuts { AreShortcuts (L.listed table.now) self.now }
@@ -148,8 +152,10 @@ impl Shortcuts {
     }
 
     /// Puts a list of extensions into its normal form as
-    /// [`settle_extensions`](crate::settle_extensions) does, by the shortcuts of the table: each
-    /// singleton occurs once, a `t` extension has the form of one, and the chains of the registry end.
+    /// [`settle_extensions`](crate::settle_extensions) does, by the shortcuts, which must be those of
+    /// the table. Each singleton must occur once, a `t` extension must have the form of one (RFC 6497,
+    /// 2.2), and the chains of values in the registry must end. Refused only where memory runs out; the
+    /// list is then what it was.
     pub fn settle_extensions<L: Lookup>(
         &self,
         alloc: Global,
@@ -167,8 +173,8 @@ impl Shortcuts {
     }
 }
 
-/// The index of an entry among the entries of a table. The entry must be one of them, and their numbers must rise.
-/// Where the numbers follow on one another, it is found without a search: by how far its number is above the first.
+/// The index of an entry among the entries of a table. The entry must be one of them, and their numbers must rise. If
+/// the numbers have no gaps, no search is needed: the index is the entry's number less that of the first entry.
 pub(crate) fn place_of(entries: &[Entry], entry: &Entry) -> usize
     requires rising { NumbersRise entries.now }
     requires there { Contains entries.now entry.now }
@@ -182,8 +188,9 @@ pub(crate) fn place_of(entries: &[Entry], entry: &Entry) -> usize
     }
 }
 
-/// The index of the entry of the value that follows an entry, if a further value follows that one; else `place`, which
-/// must be the index of the entry itself.
+/// The index to which the shortcut of one value leads from an entry. If the entry has a value that follows in a chain,
+/// and a further value follows that value, it is the index of the value's entry. Else it is `place`, which must be the
+/// index of the entry itself.
 #[tactic(auto, using(std::proofs::lemmas::Option::slice_get_within, crate::proofs::ChainWalks::entry_there, crate::proofs::ShortcutWalks::to_itself, crate::proofs::ShortcutWalks::to_next, crate::proofs::ChainWalks::next_by))]
 fn next_place<L: Lookup>(table: &L, entry: &Entry, place: usize) -> usize
     requires { slice_get (L.listed table.now) place ≡ Some entry.now }
@@ -202,8 +209,8 @@ fn next_place<L: Lookup>(table: &L, entry: &Entry, place: usize) -> usize
     }
 }
 
-/// For each entry, the index of the entry to which its shortcut of one value leads. Refused only where memory runs out.
-/// `last_places` makes longer ones of these.
+/// For each entry, the index of the entry to which its shortcut of one value leads. `last_places` makes longer
+/// shortcuts of these. Refused only where memory runs out.
 fn first_places<L: Lookup>(alloc: Global, table: &L) -> Result<Vec<usize>, AllocError>
     ensures { IfOk result (λ places. LeadOn (L.listed table.now) 1 places.items) }
 {
@@ -214,13 +221,13 @@ fn first_places<L: Lookup>(alloc: Global, table: &L) -> Result<Vec<usize>, Alloc
     Ok(places)
 }
 
-/// For each entry, the index of the entry to which its shortcut leads over as many values as there are entries, and so
-/// to the end of a chain that ends. Refused only where memory runs out.
+/// For each entry, the index of the entry to which its shortcut leads over at least as many values as there are
+/// entries, and so to the end of a chain that ends. Refused only where memory runs out.
 fn last_places<L: Lookup>(alloc: Global, table: &L) -> Result<Vec<usize>, AllocError>
     ensures { IfOk result (λ places. LeadOn (L.listed table.now) (length (L.listed table.now)) places.items) }
 {
     let mut places = first_places(alloc, table)?;
-    // The shortcuts lead over at least so many values.
+    // The shortcuts lead over at least this many values.
     let mut steps = 1;
     let mut grows = true;
     while steps < places.len() {
@@ -230,9 +237,9 @@ fn last_places<L: Lookup>(alloc: Global, table: &L) -> Result<Vec<usize>, AllocE
     Ok(places)
 }
 
-/// Makes each shortcut twice as long, unless `grows` is false, which must only be so if none would change
-/// (`GrowNoMore`). Each place must be one in the list. Tells whether a shortcut leads elsewhere than before. Neither
-/// the entries nor the length `n` is an argument, so `doubled` speaks of all.
+/// Makes each shortcut at least twice as long (`doubled`), unless `grows` is false. That must only be so if they are as
+/// long as they can be (`GrowNoMore`). Each place must be an index in the list. Returns false only if the shortcuts are
+/// as long as they can be now. Neither the entries `R` nor the length `n` is an argument, so `doubled` speaks of all.
 fn lengthen_while(grows: bool, places: &mut [usize]) -> bool
     requires within { (i j : ℕ) → slice_get places.old i ≡ Some j → j < length places.old }
     requires rest { grows ≡ false → GrowNoMore places.old }
@@ -249,9 +256,9 @@ fn either(one: bool, other: bool) -> bool
     one || other
 }
 
-/// Makes each shortcut at least twice as long: it leads on by the shortcut of the entry to which it led, which may have
-/// been made longer already. Each place must be one in the list. Tells whether a shortcut leads elsewhere than before.
-/// Neither the entries nor the length `n` is an argument, so `doubled` speaks of all.
+/// Makes each shortcut at least twice as long (`doubled`): it leads on by the shortcut of the entry to which it led,
+/// which may have been made longer already. Each place must be an index in the list. Returns whether any shortcut now
+/// leads elsewhere. Neither the entries `R` nor the length `n` is an argument, so `doubled` speaks of all.
 fn lengthen(places: &mut [usize]) -> bool
     requires { (i j : ℕ) → slice_get places.old i ≡ Some j → j < length places.old }
     ensures doubled { (R : List EntryParts) (n : ℕ) → LeadOn R n places.old → LeadOn R (n + n) places.new }

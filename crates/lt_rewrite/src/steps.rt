@@ -1,4 +1,4 @@
-//! One step, by its kind, its place and the record that it uses.
+//! A step, which is given by its kind, its place in the tag and the record that it uses.
 ghost use Rattle.std.specs.Prelude.{◌≡◌};
 ghost use Rattle.lt_rewrite.specs.Names.{name_of};
 
@@ -15,8 +15,8 @@ pub enum StepKind {
     Region,
     /// A variant is replaced by its value, which is a variant, in its place: `heploc` by `alalc97`.
     Variant,
-    /// A variant is dropped, and its value, which is a language, takes the place of the language before it, one
-    /// of its Prefixes (this project's own).
+    /// A variant is dropped, and its value, which is a language, takes the place of the language of the core, which is
+    /// one of the variant's Prefixes (no RFC asks for that: it is a rule of this project).
     VariantLanguage,
     /// The whole tag is replaced by its value: `i-klingon` to `tlh`.
     Whole,
@@ -30,7 +30,8 @@ pub enum StepKind {
     DropKeyword,
     /// Two neighbouring keywords in falling order of their keys change places.
     SwapKeywords,
-    /// `true` is dropped where it is all the types of a keyword: `u-kn-true` to `u-kn` (this project's own).
+    /// `true` is dropped where it is the only type of a keyword: `u-kn-true` to `u-kn` (no RFC asks for that: it is a
+    /// rule of this project).
     DropTrue,
     /// Two neighbouring fields in falling order of their separators change places.
     SwapFields,
@@ -66,8 +67,8 @@ pub struct Step {
     /// What it does.
     pub kind: StepKind,
     /// The number in the tag, counted from 1, of the subtag that is replaced or dropped, or of the key that is dropped
-    /// with its types. Of two parts that change places, that of the first subtag of the first; 1 for a whole tag.
+    /// with its types. If two parts change places, the number of the first subtag of the first part; 1 for a whole tag.
     pub place: u32,
-    /// The number in the file of the record that it uses, counted from 1, and 0 where it uses none.
+    /// The number in the file of the record that it uses, counted from 1, or 0 if it uses none.
     pub number: u32,
 }

@@ -1,6 +1,6 @@
-//! The steps on the parts of a `t` extension, one after another (RFC 5646, 4.5; RFC 6497): those on the source, as on a
-//! core, before the leftmost SwapFields. 1,200,000 is a round number above the places of a tag's subtags, so that they
-//! are `u32`. `shaped` says that parts which may be joined to an extension still may be.
+//! The steps on the parts of a `t` extension, one after another (RFC 5646, 4.5; RFC 6497): those on the source, which
+//! is a core, before the leftmost SwapFields. 1,200,000 is a round number above the places of a tag's subtags, so they
+//! fit in a `u32`. The clause `shaped` says that parts which may be joined to an extension still may be.
 ghost use Rattle.std.specs.Prelude.{◌≡◌, ◌≤◌, ◌+◌, All, IfOk, length};
 ghost use Rattle.lt_tag.specs.Parts.{CoreParts};
 ghost use Rattle.lt_tag.specs.Extensions.{IsT, spell_t};
@@ -16,10 +16,10 @@ use crate::steps::{Step, StepKind};
 use lt_registry::Lookup;
 use lt_tag::{OutOfMemory, TParts};
 
-/// Takes the first step on the source of a `t` extension, and goes on so until there is none. It adds the steps to
-/// `steps`; without a source there are none. No step is left on whatever core is the source then (`at_rest`). The
-/// extension's singleton has the place `start`, at most 1,200,000, and the chains of the registry must end. Refused
-/// only where memory runs out; some of the steps may have been taken then.
+/// Takes the first step on the source of a `t` extension again and again, until there is none (`at_rest`). It adds the
+/// steps to `steps`; without a source there are none. The fields stay (`fields`). The extension's singleton is at the
+/// place `start`, at most 1,200,000, and the chains of values in the registry must end. Refused only where memory runs
+/// out; some of the steps may have been taken then.
 fn explain_source<L: Lookup>(
     table: &L,
     parts: &mut TParts,
@@ -38,9 +38,10 @@ fn explain_source<L: Lookup>(
     take_core_steps(table, source, start, steps)
 }
 
-/// Takes the first step on the parts of a `t` extension, and goes on so until there is none. It adds the steps to
-/// `steps`. The extension's singleton has the place `start`, and its last subtag must have one of at most 1,200,000.
-/// The chains of the registry must end. Refused only where memory runs out; some of the steps may have been taken then.
+/// Takes the first step on the parts of a `t` extension again and again, until there is none. It adds the steps to
+/// `steps`. The extension's singleton is at the place `start`, and its last subtag must be at a place of at most
+/// 1,200,000. The chains of values in the registry must end. Refused only where memory runs out; some of the steps may
+/// have been taken then.
 pub(crate) fn explain_t<L: Lookup>(
     table: &L,
     parts: &mut TParts,

@@ -1,7 +1,7 @@
-//! The ordering steps on the parts of a `u` extension, one after another (RFC 5646, 4.5; RFC 6067): the leftmost
-//! DropAttribute before SwapAttributes, DropKeyword, SwapKeywords and DropTrue. 1,200,000 is a round number above the
-//! places of a tag's subtags, so that they are `u32`. `shaped` says that parts which may be joined to an extension
-//! still may be.
+//! The steps on the parts of a `u` extension, one after another (RFC 5646, 4.5; RFC 6067): the leftmost DropAttribute
+//! before SwapAttributes, DropKeyword, SwapKeywords and DropTrue. 1,200,000 is a round number above the places of a
+//! tag's subtags, so they fit in a `u32`. The clause `shaped` says that parts which may be joined to an extension still
+//! may be.
 ghost use Rattle.std.specs.Prelude.{◌≤◌, ◌+◌, IfOk, length, flat_map};
 ghost use Rattle.lt_tag.specs.Extensions.{IsU, spell_keyword, spell_u};
 ghost use Rattle.lt_rewrite.specs.Applying.{UnicodeLeads};
@@ -13,8 +13,8 @@ use crate::part_explaining::{explain_drops, explain_swaps};
 use crate::steps::{Step, StepKind};
 use lt_tag::{Keyword, OutOfMemory, UParts};
 
-/// Takes the types from the leftmost keyword whose types are exactly `true`, until there is none. It adds the steps to
-/// `steps`, all of one rank (`λ _ _. 0`). The keywords begin after `start` subtags, and `start` and their subtags must
+/// Drops `true` from each keyword whose types are exactly `true`, from left to right. It adds the steps to `steps`, all
+/// of one rank (`λ _ _. 0`). The keywords begin after `start` subtags, and `start` and the number of their subtags must
 /// be at most 1,200,000 together. Refused only where memory runs out; some of the steps may have been taken then.
 fn drop_trues(
     keywords: &mut Vec<Keyword>,
@@ -41,9 +41,9 @@ fn drop_trues(
     Ok(())
 }
 
-/// Takes the first step on the parts of a `u` extension, and goes on so until there is none. It adds the steps to
-/// `steps`. The extension's singleton has the place `start`, and its last subtag must have one of at most 1,200,000.
-/// Refused only where memory runs out; some of the steps may have been taken then.
+/// Takes the first step on the parts of a `u` extension again and again, until there is none. It adds the steps to
+/// `steps`. The extension's singleton is at the place `start`, and its last subtag must be at a place of at most
+/// 1,200,000. Refused only where memory runs out; some of the steps may have been taken then.
 pub(crate) fn explain_u(
     parts: &mut UParts,
     start: usize,

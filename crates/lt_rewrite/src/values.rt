@@ -1,5 +1,5 @@
 //! What the entries of a table give as preferred values (RFC 5646, 3.1.7): one subtag, or a whole tag. A clause `form`
-//! hands on that a value has the form of the values of its kind.
+//! says that a value has the form that values of its kind have.
 ghost use Rattle.std.specs.Prelude.{◌≡◌, Some, true, is_some, IfSome, MatchBool, MatchOption};
 ghost use Rattle.std.specs.Option.{option_copied};
 ghost use Rattle.lt_tag.specs.Parts.{TagForm};
@@ -33,8 +33,8 @@ pub fn tag_value(entry: &Entry) -> Option<&Tag>
     }
 }
 
-/// The tag and the preferred value of a record of a whole tag. None if the record has no value, or is none of a whole
-/// tag.
+/// The tag and the preferred value of a record of a whole tag. None if the record is not one of a whole tag, or has no
+/// value.
 pub fn tag_and_value(entry: &Entry) -> Option<(&Tag, &Tag)>
     ensures { MatchOption result
         ((t u : TagForm) → entry.now.name ≡ names.Whole t → tag_of entry.now.value ≡ Some u → ⊥)
@@ -46,22 +46,22 @@ pub fn tag_and_value(entry: &Entry) -> Option<(&Tag, &Tag)>
     }
 }
 
-/// Whether the preferred value `subtag` of a variant is a language: that has at most 3 letters, and a variant has at
-/// least 4 (RFC 5646, 2.1).
+/// Whether `subtag`, the preferred value of a variant, is a language and not a variant: a language that is such a value
+/// has at most 3 letters, and a variant has at least 4 letters or digits (RFC 5646, 2.1).
 pub fn is_short(subtag: &Subtag) -> bool
     ensures { result ≡ entries.is_short subtag.now }
 {
     subtag.bytes().len() <= 3
 }
 
-/// Whether a subtag has an entry under a kind.
+/// Whether a subtag has an entry of this kind.
 pub fn is_registered<L: Lookup>(table: &L, kind: Kind, subtag: &Subtag) -> bool
     ensures { result ≡ entries.is_registered (L.listed table.now) kind subtag.now }
 {
     table.entry(kind, subtag).is_some()
 }
 
-/// The preferred value of a subtag under a kind. None if it is not registered, or has none.
+/// The preferred value of a subtag of this kind. None if the subtag is not registered as one, or has no value.
 pub fn value<'a, L: Lookup>(table: &'a L, kind: Kind, subtag: &Subtag) -> Option<&'a Subtag>
     ensures value { option_copied result ≡ entries.preferred_value (L.listed table.now) kind subtag.now }
     ensures form { IfSome result (λ value. has_value_form kind value.now ≡ true) }

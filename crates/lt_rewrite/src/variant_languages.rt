@@ -1,5 +1,6 @@
-//! VariantLanguage steps one after another, where each variant is looked up once. Such a step drops a variant whose
-//! value is a language, and makes that the language, if the language before it is one of the variant's Prefixes.
+//! VariantLanguage steps one after another, for which each variant is looked up only once. Such a step drops a variant
+//! whose value is a language, if the core's language is one of the variant's Prefixes, and makes the value the core's
+//! language.
 ghost use Rattle.std.specs.Prelude.{◌≡◌, true, All, IfSome, MatchOption};
 ghost use Rattle.std.specs.List.{slice_get};
 ghost use Rattle.std.specs.Option.{option_copied};
@@ -20,8 +21,8 @@ use lt_registry::{Entry, Kind, Lookup};
 use lt_subtag::Subtag;
 use lt_tag::Core;
 
-/// The index of a variant's entry in the table, or the index after the last entry if it has none, so that nothing is
-/// there.
+/// The index of a variant's entry in the table. If the variant has no entry, it is the index after the last entry,
+/// where nothing is.
 #[tactic(auto, using(crate::proofs::ChainWalks::entry_there))]
 fn variant_place<L: Lookup>(table: &L, variant: &Subtag) -> usize
     ensures { slice_get (L.listed table.now) result ≡ entry (L.listed table.now) kinds.Variant variant.now }
@@ -34,7 +35,8 @@ fn variant_place<L: Lookup>(table: &L, variant: &Subtag) -> usize
 }
 
 /// The end of a variant's chain of variants, and the index of the end's entry in the table, or the index after the last
-/// entry if the end has none. The chains of the registry must end, and the shortcuts be those of the table.
+/// entry if the end has none. The chains of values in the registry must end, and the shortcuts must be those of the
+/// table.
 #[tactic(auto, using(crate::proofs::ChainWalks::entry_there))]
 pub(crate) fn settled_variant<L: Lookup>(
     table: &L,
@@ -67,9 +69,9 @@ fn entry_at<'a, L: Lookup>(table: &'a L, place: usize) -> Option<&'a Entry>
     table.entries().get(place)
 }
 
-/// The language to which a variant leads beside a language by a VariantLanguage step, or None if it has no such step.
-/// `place` must be the index of the variant's entry, or one after the last entry if it has none. `_variant` is for the
-/// clauses alone: it is not looked up.
+/// The variant's value, if that is a language, and if `language` is one of the variant's Prefixes: a VariantLanguage
+/// step puts it in the place of `language`. None otherwise. `place` must be the index of the variant's entry, or an
+/// index after the last entry if it has none. `_variant` is only for the clauses: it is not looked up.
 fn variant_language_at<'a, L: Lookup>(
     table: &'a L,
     place: usize,
@@ -89,9 +91,9 @@ fn variant_language_at<'a, L: Lookup>(
     }
 }
 
-/// The leftmost variant with a VariantLanguage step: its index, counted from 0, and the language to which it leads.
-/// None if no variant has one. `places` must be the indices of the entries of the core's variants, so that none is
-/// looked up; for a variant without an entry it has an index after the last entry.
+/// The leftmost variant that a VariantLanguage step may drop: its index, counted from 0, and the language that the step
+/// puts. None if there is no such variant. `places` must be the indices of the entries of the core's variants, so that
+/// none is looked up; for a variant without an entry it has an index after the last entry.
 pub(crate) fn first_variant_language_at<L: Lookup>(
     table: &L,
     places: &[usize],

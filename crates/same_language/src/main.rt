@@ -1,4 +1,4 @@
-//! Are these two tags equivalent by this registry?
+//! Prints whether `zh-cmn-Hans` and `cmn-hans` are equivalent by the registry in the file `registry.txt`.
 #![tactic(auto)]
 
 use bcp47::{Registry, Tag};

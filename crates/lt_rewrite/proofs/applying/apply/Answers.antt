@@ -8,7 +8,7 @@ returns-in_default-clause-err g c =
     let none = rw c.in_default.is at c.in_ok-changed.ensures in
     λ u m. none u m.0.to.tag (m.0.change, m.1)
 
--- the answer is where the step leads, and is proper
+-- the tag that is given is the one to which the step leads, and is proper
 pub returns-then-branch-clause-ok : goal.returns-then-branch-clause-ok
 returns-then-branch-clause-ok g c =
     let R = g.L.Lookup.listed c.args.table.now in
@@ -22,7 +22,7 @@ returns-then-branch-clause-ok g c =
       leads.1,
     )
 
--- NoSuchStep is right: the step leads to one tag at most, and this one is not proper
+-- NoSuchStep is right: the step leads to at most one tag, and this tag is not proper
 pub returns-else-branch-clause-err : goal.returns-else-branch-clause-err
 returns-else-branch-clause-err g c =
     let R = g.L.Lookup.listed c.args.table.now in

@@ -5,12 +5,12 @@ use Rattle.lt_rewrite.specs.Applying.{TagLeads}
 use Rattle.lt_rewrite.proofs.TagLeading.{made, values_alone}
 use Rattle.lt_rewrite.proofs.applying.change.Goals as goal
 
--- a Whole step leads where `change_whole` says; if to nothing, then to no value of the type Tag either
+-- a Whole step leads to what `change_whole` gives; if it leads nowhere, it leads to no value of the type Tag
 pub returns-in-Whole : goal.returns-in-Whole
 returns-in-Whole g c = values_alone (TagLeads (g.L.Lookup.listed c.args.table.now) c.args.tag.now c.args.step)
     IsTagValue c.change_whole.result c.change_whole.ensures
 
--- the step leads to the langtag of these parts and the private use; None says that it is no value of the type Tag
+-- the step leads to the langtag of these parts and the tag's private use; None says that no Tag can be this langtag
 pub returns-in_ok-private-in-Some-2 : goal.returns-in_ok-private-in-Some-2
 returns-in_ok-private-in-Some-2 g c =
     let R = g.L.Lookup.listed c.args.table.now in

@@ -6,7 +6,7 @@ use Rattle.lt_rewrite.proofs.TagLeading.{fits, few_subtags, core_changed, extens
 use Rattle.lt_rewrite.proofs.ExtensionForms.{extensions_step_count}
 use Rattle.lt_rewrite.proofs.applying.change_parts.Goals as goal
 
--- the step leads to the langtag of the core that it changes and the tag's extensions, few as they are
+-- the step leads to the langtag of the changed core and the tag's extensions, of which a tag has at most 1,024
 pub returns-in-Some : goal.returns-in-Some
 returns-in-Some g c =
     let t = c.args.tag.now in
@@ -33,7 +33,7 @@ change_extensions-requires g c =
       c.core_length.ensures.few,
     )
 
--- the step leads to the langtag of the core and the extensions that it changes; these become no more by it
+-- the step leads to the langtag of the core and the changed extensions, which are no more than before
 pub returns-in_ok-copy-in-Some-2 : goal.returns-in_ok-copy-in-Some-2
 returns-in_ok-copy-in-Some-2 g c =
     let R = g.L.Lookup.listed c.args.table.now in

@@ -5,7 +5,7 @@ use Rattle.lt_rewrite.proofs.CoreLaws.{weight_falls}
 use Rattle.lt_rewrite.proofs.FirstSteps.{adds_more}
 use Rattle.lt_rewrite.proofs.core_explaining.take_core_steps.Goals as goal
 
--- a step makes the weight of the core less, since the chains of the registry end
+-- a step makes the weight of the core lower, since the chains of values in the registry end
 pub loop-step-smaller : goal.loop-step-smaller
 loop-step-smaller g c =
     let R = g.L.Lookup.listed c.args.table.now in

@@ -4,12 +4,12 @@ use Rattle.lt_rewrite.proofs.CoreSteps.{none_of}
 use Rattle.lt_rewrite.proofs.CoreLeading.{first_variant_language, none_variant_language}
 use Rattle.lt_rewrite.proofs.core_explaining.variant_language_step.Goals as goal
 
--- no variant leads to a language beside that of the core, so there is no such step
+-- no variant has a language as its value and the core's language as a Prefix, so there is no such step
 pub returns-in_default : goal.returns-in_default
 returns-in_default g c = none_variant_language (g.L.Lookup.listed c.args.table.now) c.args.start c.args.core.now
     c.in_default.ensures.variant_language
 
--- there are no extlangs, and this variant is the leftmost that leads to a language beside that of the core
+-- there are no extlangs, and this variant is the leftmost with a language as its value and the core's as a Prefix
 pub returns : goal.returns
 returns g c =
     let core = c.args.core.now in

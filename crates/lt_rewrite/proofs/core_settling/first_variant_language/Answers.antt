@@ -4,7 +4,7 @@ use Rattle.lt_rewrite.specs.CoreSteps.{language_beside}
 use Rattle.lt_rewrite.proofs.CoreSettling.{first_variant_language_at, none_more}
 use Rattle.lt_rewrite.proofs.core_settling.first_variant_language.Goals as goal
 
--- the answer is the leftmost: this variant leads to the language, and none before it leads to one
+-- the answer is right: this variant has a VariantLanguage step, which puts the language, and none before it has one
 pub returns-in-Some-clause-variant_language : goal.returns-in-Some-clause-variant_language
 returns-in-Some-clause-variant_language g c = search (rules, first_variant_language_at)
 

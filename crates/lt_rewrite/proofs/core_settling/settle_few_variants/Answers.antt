@@ -23,7 +23,7 @@ loop-index-preserved g c =
           c.settled_variant-end.ensures.place c.loop-index.invariant.places));
     }
 
--- no variant is left, so `places` are those of all
+-- no variant is left, so `places` has the place of the entry of each variant
 pub returns-clause-places : goal.returns-clause-places
 returns-clause-places g c =
     let R = g.L.Lookup.listed c.args.table.now in

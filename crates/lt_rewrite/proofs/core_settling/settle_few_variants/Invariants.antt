@@ -4,7 +4,7 @@ use Rattle.lt_rewrite.proofs.CoreSettling.{VariantsSettled}
 use Rattle.lt_rewrite.proofs.core_settling.settle_few_variants.Given as goal
 
 -- core steps lead to this core, its variants before `index` are at the ends of their chains, and `places` has the place
--- of each one's entry
+-- of the entry of each of these variants
 abbrev pub invariant-loop-index : goal.invariant-loop-index
 invariant-loop-index g l = record {
   settled : VariantsSettled (g.L.Lookup.listed l.table) l.fn.core l.core l.index l.index-end;

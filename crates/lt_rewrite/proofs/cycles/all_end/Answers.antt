@@ -8,7 +8,7 @@ use Rattle.lt_rewrite.specs.declared.cycles.Order.TheVariants as orders
 use Rattle.lt_rewrite.proofs.ChainWalks.{all_end_in_order}
 use Rattle.lt_rewrite.proofs.cycles.all_end.Goals as goal
 
--- false is right: the chain of this record has no end, so not each has one
+-- false is right: the chain of this record has no end, so not all chains end
 pub returns-then-not-ends_or_falls : goal.returns-then-not-ends_or_falls
 returns-then-not-ends_or_falls g c = λ all.
     let R = g.L.Lookup.listed c.args.table.now in
@@ -27,7 +27,7 @@ loop-entry-preserved g c =
     All-more P c.entries-entry-items.result.now c.loop-entry.entry-index c.entry-item.result c.loop-entry-test.true
     c.loop-entry.invariant (subst P c.entry-item.is c.if-not-ends_or_falls.ensures)
 
--- no record is left: each chain ends if those before it in the order do, so by the order all end
+-- no record is left: each chain ends if those of the records before it in the order do, and so all end
 pub returns : goal.returns
 returns g c =
     let R = g.L.Lookup.listed c.args.table.now in

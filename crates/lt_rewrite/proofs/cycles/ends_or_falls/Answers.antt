@@ -7,7 +7,7 @@ use Rattle.lt_rewrite.specs.Cycles.{place}
 use Rattle.lt_rewrite.proofs.ChainWalks.{chase_more, IsWalk, ends_there, ends_after, at_limit, next_by}
 use Rattle.lt_rewrite.proofs.cycles.ends_or_falls.Goals as goal
 
--- true is right: the chain has come to a record before this one in the order, and ends if the chain of that one does
+-- true is right: the chain has come to a record before this one in the order, and ends if the chain of that record does
 pub returns-then-place : goal.returns-then-place
 returns-then-place g c =
     let R = g.L.Lookup.listed c.args.table.now in

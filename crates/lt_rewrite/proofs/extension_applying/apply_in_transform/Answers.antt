@@ -20,7 +20,7 @@ join_t-requires-clause-shaped g c =
     t_shaped R (step_shaped R G) c.in-Ok.parts c.apply_to_transform.new.parts c.if-not-apply_to_transform.ensures.0
     c.in-Ok.ensures.parts.shaped
 
--- the parts may be joined: a step makes their subtags no more
+-- the parts may be joined: after a step they have no more subtags than before
 pub join_t-requires-clause-few : goal.join_t-requires-clause-few
 join_t-requires-clause-few g c =
     omega (

@@ -11,7 +11,7 @@ returns-in-None g c =
     none_inside (g.L.Lookup.listed c.args.table.now) c.args.start c.args.extensions.now.items c.args.step c.in_default.not-SwapExtensions
     (rw (c.in-None.is, c.deref.ensures.value) at c.in_ok-index.ensures)
 
--- the step leads on inside this extension, and so from all to those with the changed one in its place
+-- the step leads on inside this extension, and so from the list to the list with the changed extension in its place
 pub returns-in-Some : goal.returns-in-Some
 returns-in-Some g c =
     let at = rw (c.in-Some.is, c.deref.ensures.value) at c.in_ok-index.ensures in

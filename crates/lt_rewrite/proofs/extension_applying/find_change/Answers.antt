@@ -7,7 +7,7 @@ use Rattle.lt_rewrite.specs.Applying.{LeadsAt}
 use Rattle.lt_rewrite.proofs.FirstSteps.{flat_more}
 use Rattle.lt_rewrite.proofs.extension_applying.find_change.Goals as goal
 
--- the place of this extension is within the bound 1,150,000: the subtags before it are among all
+-- the place of this extension is within the bound 1,150,000: no more subtags are before it than there are in all
 pub apply_to_extension-requires : goal.apply_to_extension-requires
 apply_to_extension-requires g c =
     let few = length-flat_map-take spell_extension c.args.extensions.now c.loop-index.index
@@ -24,7 +24,7 @@ returns-in-Some g c =
           c.index-extensions-index.is d) at leads),
     )
 
--- this extension and those before it have no more subtags than all, so the sum stays in range
+-- this extension and those before it have no more subtags than all extensions, so the sum stays in range
 pub overflow_add-place-in-loop-index : goal.overflow_add-place-in-loop-index
 overflow_add-place-in-loop-index g c =
     let few = length-flat_map-take spell_extension c.args.extensions.now c.loop-index.index

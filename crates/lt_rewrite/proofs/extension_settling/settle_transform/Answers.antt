@@ -41,7 +41,7 @@ returns-clause-shaped g c =
     (t_shaped (g.L.Lookup.listed c.args.table.now)
     (step_shaped (g.L.Lookup.listed c.args.table.now) c.recall_forms.ensures)) (returns-clause-settled g c).reached
 
--- each step to the normal form makes the subtags no more
+-- the normal form has no more subtags, since no step leads to more
 pub returns-clause-few : goal.returns-clause-few
 returns-clause-few g c =
     star_no_more (λ (t : TForm). length (spell_t t)) (t_step_length (g.L.Lookup.listed c.args.table.now))

@@ -12,7 +12,7 @@ use Rattle.lt_rewrite.proofs.PartForms.{u_shaped, u_step_length}
 use Rattle.lt_rewrite.proofs.ExtensionLaws.{unicode_settles}
 use Rattle.lt_rewrite.proofs.extension_settling.settle_u.Goals as goal
 
--- the invariant stays true: a turn takes a sole type `true` from one keyword more
+-- the invariant stays true: a turn drops the type `true` from one keyword more, if it is the only one
 pub loop-keyword-preserved : goal.loop-keyword-preserved
 loop-keyword-preserved c =
     let ys : List KeywordParts = c.loop-keyword.keyword-items in
@@ -21,12 +21,12 @@ loop-keyword-preserved c =
     ∙ map_over_more untrue c.deref_mut-keyword-items.result.now ys c.loop-keyword.keyword-index k (omega
     (arith, c.loop-keyword-test.true, c.loop-keyword.auto.keyword-items)) c.loop-keyword.invariant c.keyword-item.is
 
--- where the index is at the end, all keywords have lost a sole type `true`
+-- if the index is past the last keyword, all keywords have lost an only type `true`
 all_of : (xs ys : List KeywordParts) (i : ℕ) → length xs ≤ i → ys ≡ map untrue (take i xs) ++ drop i xs → ys ≡ map untrue xs
 all_of xs ys i h e = e ∙ ap (λ zs. map untrue (take i xs) ++ zs) (drop_all i xs h) ∙ append-nil (map untrue (take i xs))
     ∙ ap (map untrue) (take_all i xs h)
 
--- attributes and keywords are in order, each once, and no keyword has the sole type `true`, so no step is left
+-- attributes and keywords are in order, each once, and no keyword has `true` as its only type, so no step is left
 pub returns-clause-settled : goal.returns-clause-settled
 returns-clause-settled c =
     let p : UForm = c.args.parts.now in
@@ -51,7 +51,7 @@ pub returns-clause-shaped : goal.returns-clause-shaped
 returns-clause-shaped c =
     star_keeps IsU u_shaped (returns-clause-settled c).reached
 
--- each step to the normal form makes the subtags no more
+-- the normal form has no more subtags, since no step leads to more
 pub returns-clause-few : goal.returns-clause-few
 returns-clause-few c =
     star_no_more (λ (u : UForm). length (spell_u u)) u_step_length (returns-clause-settled c).reached

@@ -9,7 +9,7 @@ use Rattle.lt_rewrite.proofs.ExtensionLaws.{settled_within}
 use Rattle.lt_rewrite.proofs.ExtensionRuns.{HasForm, IsKept, swapped, settles_of, after_u, after_t}
 use Rattle.lt_rewrite.proofs.extensions_explaining.explain_extensions.Goals as goal
 
--- exchanges make the subtags no more, so the places are still within the bound
+-- after exchanges there are no more subtags, so the places are still within the bound
 pub explained_unicode-requires : goal.explained_unicode-requires
 explained_unicode-requires g c =
     let R : List EntryParts = g.L.Lookup.listed c.args.table.now in
@@ -35,7 +35,7 @@ put_back-requires g c =
     settled_within R unicode fs u (settles_of R unicode c.args.start fs u c.explain_swaps.new.steps.items
     c.explained_unicode.new.steps.items h)
 
--- exchanges and steps in the `u` extension make the subtags no more, and leave a `t` extension as it is
+-- after exchanges and steps in the `u` extension there are no more subtags, and a `t` extension is as it was
 pub explained_transform-requires : goal.explained_transform-requires
 explained_transform-requires g c =
     let R : List EntryParts = g.L.Lookup.listed c.args.table.now in
@@ -54,7 +54,8 @@ explained_transform-requires g c =
           (sym c.deref-2.ensures.value) p.kept.few;
     }
 
--- exchanges, then the steps in `u`, then those in `t` are one run of first steps, after which none is left
+-- the exchanges, the steps in `u` and those in `t`, one after another, are one run of first steps, after which no step
+-- is left
 pub returns : goal.returns
 returns g c =
     let R : List EntryParts = g.L.Lookup.listed c.args.table.now in

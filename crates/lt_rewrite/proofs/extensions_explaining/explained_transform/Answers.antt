@@ -19,8 +19,8 @@ pub split_t-requires : goal.split_t-requires
 split_t-requires g c = (found_there c.args.extensions.now transform c.in-Some.index c.index-extensions-index.result
     (sym c.place_of.ensures ∙ c.in-Some.is) c.index-extensions-index.is).of_singleton
 
--- this arm is never reached: BadTransform says that the extension has not the form of a `t` extension, but each one has
--- it
+-- this arm is never reached: BadTransform says that the extension does not have the form of a `t` extension, but each
+-- `t` extension has it
 pub unreachable-requires : goal.unreachable-requires
 unreachable-requires g c =
     let e : ExtensionParts = c.index-extensions-index.result in
@@ -30,7 +30,7 @@ unreachable-requires g c =
     let fault = rw c.in-Err-BadTransform.field-0-is at c.in-Err-BadTransform.ensures.fault in
     fault parts.0 parts.1
 
--- the parts may be joined: each step makes their subtags no more
+-- the parts may be joined: after each step they have no more subtags than before
 pub join_t-requires-clause-few : goal.join_t-requires-clause-few
 join_t-requires-clause-few g c =
     adds_keeps (TransformLeads (g.L.Lookup.listed c.args.table.now) (c.args.start + c.subtags_before.result + 1))

@@ -19,7 +19,7 @@ pub split_u-requires : goal.split_u-requires
 split_u-requires c = (found_there c.args.extensions.now unicode c.in-Some.index c.index-extensions-index.result
     (sym c.place_of.ensures ∙ c.in-Some.is) c.index-extensions-index.is).of_singleton
 
--- the parts may be joined: each step makes their subtags no more
+-- the parts may be joined: after each step they have no more subtags than before
 pub join_u-requires-clause-few : goal.join_u-requires-clause-few
 join_u-requires-clause-few c =
     adds_keeps (UnicodeLeads (c.args.start + c.subtags_before.result + 1)) (λ _ step. kind_rank step)

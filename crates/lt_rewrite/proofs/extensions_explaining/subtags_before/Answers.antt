@@ -4,7 +4,7 @@ use Rattle.lt_rewrite.proofs.FirstSteps.{flat_more}
 use Rattle.lt_rewrite.proofs.ExtensionRuns.{few_before}
 use Rattle.lt_rewrite.proofs.extensions_explaining.subtags_before.Goals as goal
 
--- the extensions counted have no more subtags than all, so the sum stays in range
+-- the extensions that are counted have no more subtags than all extensions, so the sum stays in range
 pub overflow_add-count : goal.overflow_add-count
 overflow_add-count c =
     let es = take c.args.index c.args.extensions.now in

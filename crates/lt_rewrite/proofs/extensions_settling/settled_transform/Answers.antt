@@ -12,8 +12,8 @@ pub split_t-requires : goal.split_t-requires
 split_t-requires g c = (found_there c.args.extensions.now transform c.in-Some.place c.index-extensions-place.result
     (sym c.place_of.ensures ∙ c.in-Some.is) c.index-extensions-place.is).of_singleton
 
--- this arm is never reached: BadTransform says that the extension has not the form of a `t` extension, but each one has
--- it
+-- this arm is never reached: BadTransform says that the extension does not have the form of a `t` extension, but each
+-- `t` extension has it
 pub unreachable-requires : goal.unreachable-requires
 unreachable-requires g c =
     let es = c.args.extensions.now in
@@ -23,7 +23,7 @@ unreachable-requires g c =
     c.index-extensions-place.is c.requires.transforms in
     (rw c.in-Err-BadTransform.field-0-is at c.in-Err-BadTransform.ensures.fault) parts.0 parts.1
 
--- the extension that is answered is the normal form: the normal form of the parts spells it
+-- the extension that is given is the normal form: the normal form of the parts spells it
 pub returns : goal.returns
 returns g c =
     let R = g.L.Lookup.listed c.args.table.now in

@@ -14,7 +14,7 @@ pub split_u-requires : goal.split_u-requires
 split_u-requires c = (found_there c.args.extensions.now unicode c.in-Some.place c.index-extensions-place.result
     (sym c.place_of.ensures ∙ c.in-Some.is) c.index-extensions-place.is).of_singleton
 
--- the extension that is answered is the normal form: the normal form of the parts spells it
+-- the extension that is given is the normal form: the normal form of the parts spells it
 pub returns : goal.returns
 returns c = λ R.
     let e : ExtensionParts = c.index-extensions-place.result in

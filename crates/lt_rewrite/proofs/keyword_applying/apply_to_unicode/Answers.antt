@@ -10,7 +10,7 @@ use Rattle.lt_rewrite.proofs.ExtensionLeading.{swap_keywords, drop_keyword, drop
 use Rattle.lt_rewrite.specs.Runs.{rank_of}
 use Rattle.lt_rewrite.proofs.keyword_applying.apply_to_unicode.Goals as goal
 
--- the attributes of an extension have room where the extension has
+-- if the places of an extension's subtags are below 2^32, those of its attributes are
 few : (start : ℕ) (p : UForm) (as' : List (List ℕ)) → as' ≡ p.attributes → start + 1 + length (spell_u p) < 2 ^ 32
     → start + length (flat_map (λ a. a ∷ []) as') < 2 ^ 32
 few start p as' e h =
@@ -81,7 +81,7 @@ returns-in-DropKeyword c =
     c.drop_at-in-DropKeyword.new.parts.items c.drop_at-in-DropKeyword.result)
     (ap (λ n. c.args.start + n) (c.len.ensures ∙ all)) c.drop_at-in-DropKeyword.ensures))
 
--- a DropTrue step takes a sole `true` from one of the keywords, which begin after the attributes
+-- a DropTrue step drops an only type `true` from one of the keywords, which begin after the attributes
 pub returns-in-DropTrue : goal.returns-in-DropTrue
 returns-in-DropTrue c =
     let p : UForm = u_parts c.parts.inside.attributes.items c.parts.inside.keywords.items in

@@ -12,7 +12,7 @@ returns-in_default c = λ ls s.
     let at = true_step c.args.start c.args.place c.args.keywords.now.items ls s in
     (rw c.deref.ensures.value at c.in_default.ensures) at.index at.within at.is_place
 
--- false is right: the keyword whose key is one place to the left has not exactly the type `true`
+-- false is right: the types of the keyword whose key is one place to the left are not exactly `true`
 pub returns-then-not-has_sole_true : goal.returns-then-not-has_sole_true
 returns-then-not-has_sole_true c = λ ls s.
     let at = rw c.deref.ensures.value at c.in-Some.ensures in

@@ -5,7 +5,7 @@ use Rattle.lt_tag.specs.Parts.{KeywordParts}
 use Rattle.lt_rewrite.proofs.CoreSteps.{sole}
 use Rattle.lt_rewrite.proofs.keyword_applying.has_sole_true.Goals as goal
 
--- the types are the sole type true exactly if the only one of them equals it
+-- types of which there is only one are exactly `true` if and only if that one is equal to `true` (`r`)
 sole_true : (r : Bool) (only : List ℕ) (types : List (List ℕ)) → types ≡ only ∷ [] → r ≡ bytes_eq only (codes "true")
     → MatchBool r (types ≡ codes "true" ∷ []) (types ≡ codes "true" ∷ [] → ⊥)
 sole_true true only types e h = e ∙ ap (λ t. t ∷ []) ((bytes_eq-Decides only (codes "true")).0 (sym h))

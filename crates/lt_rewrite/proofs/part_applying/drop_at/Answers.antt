@@ -8,7 +8,7 @@ returns-in_default g c = λ ys s.
     let at = drop_step s in
     (rw c.deref.ensures.value at c.in_default.ensures) at.index at.within at.is_place
 
--- false is right: the part that begins at this place has none before it that is equal in the order
+-- false is right: no earlier part is equal in the order to the part that begins at this place
 pub returns-then-not-has_like : goal.returns-then-not-has_like
 returns-then-not-has_like g c = λ ys s.
     let P = g.P.Spelled.spell in
@@ -16,7 +16,7 @@ returns-then-not-has_like g c = λ ys s.
     (rw c.deref-2.ensures.value at c.if-not-has_like.ensures)
     (holds_at g.met.P.Spelled.some (drop_step s) c.in-Some.index at.0 at.1)
 
--- the part that begins at this place is dropped, and one before it is equal to it in the order
+-- the part that begins at this place is dropped, and an earlier one is equal to it in the order
 pub returns : goal.returns
 returns g c =
     let P = g.P.Spelled.spell in

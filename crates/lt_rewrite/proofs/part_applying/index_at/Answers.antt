@@ -2,7 +2,7 @@ use Rattle.std.proofs.Common.{length, ap, arith}
 use Rattle.std.proofs.lemmas.List.Folds.{length-flat_map-take}
 use Rattle.lt_rewrite.proofs.part_applying.index_at.Goals as goal
 
--- this part and those before it have no more subtags than all, so the sum stays in range
+-- this part and those before it have no more subtags than all parts, so the sum stays in range
 pub overflow_add-here-in-loop-index : goal.overflow_add-here-in-loop-index
 overflow_add-here-in-loop-index g c =
     let few = length-flat_map-take g.P.Spelled.spell c.args.parts.now c.loop-index.index c.index-parts-index.result

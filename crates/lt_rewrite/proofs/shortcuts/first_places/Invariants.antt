@@ -2,7 +2,7 @@ use Rattle.std.proofs.Common.{◌≡◌, ◌<◌, ℕ, Some, length, slice_get}
 use Rattle.lt_rewrite.specs.Shortcuts.{IsShortcut}
 use Rattle.lt_rewrite.proofs.shortcuts.first_places.Given as goal
 
--- there is one place for each entry so far, and to this its shortcut of one value leads
+-- there is one place for each entry so far, to which its shortcut of one value leads
 abbrev pub invariant-loop-place : goal.invariant-loop-place
 invariant-loop-place g l = record {
   count : length l.places.items ≡ l.place;

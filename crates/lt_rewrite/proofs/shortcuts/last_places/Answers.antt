@@ -8,7 +8,7 @@ use Rattle.lt_rewrite.proofs.shortcuts.last_places.Goals as goal
 pub lengthen_while-grows-requires-clause-rest : goal.lengthen_while-grows-requires-clause-rest
 lengthen_while-grows-requires-clause-rest g c = λ no. subst GrowNoMore (sym c.deref_mut.ensures.value) (c.loop-steps.invariant.rest no)
 
--- the invariant stays true: a turn makes the shortcuts twice as long, or leaves them if they can't get longer
+-- the invariant stays true: a turn makes the shortcuts twice as long, or leaves them if they cannot get longer
 pub loop-steps-preserved : goal.loop-steps-preserved
 loop-steps-preserved g c =
     let R = g.L.Lookup.listed c.args.table.now in

@@ -4,7 +4,7 @@ use Rattle.lt_rewrite.specs.Shortcuts.{LeadOn}
 use Rattle.lt_rewrite.proofs.ShortcutWalks.{PartDoubled}
 use Rattle.lt_rewrite.proofs.shortcuts.lengthen.Given as goal
 
--- the shortcuts before the index are twice as long, whatever the registry and the length; all are places in the list,
+-- the shortcuts before the index are twice as long, whatever the registry and the length; all are indices in the list,
 -- and while none has changed the list is what it was
 abbrev pub invariant-loop-index : goal.invariant-loop-index
 invariant-loop-index l = record {

@@ -5,7 +5,7 @@ use Rattle.lt_rewrite.specs.ChainEnds.{following}
 use Rattle.lt_rewrite.proofs.ShortcutWalks.{to_itself, none_after}
 use Rattle.lt_rewrite.proofs.shortcuts.next_place.Goals as goal
 
--- no value follows that of the entry, so its shortcut leads to the entry itself
+-- no value follows the value of the entry, so its shortcut leads to the entry itself
 pub returns-in-None-clause-shortcut : goal.returns-in-None-clause-shortcut
 returns-in-None-clause-shortcut g c =
     let R = g.L.Lookup.listed c.args.table.now in

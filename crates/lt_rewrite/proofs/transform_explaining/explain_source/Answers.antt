@@ -6,7 +6,7 @@ use Rattle.lt_rewrite.specs.Runs.{NoneLeads, AddsOnTransform}
 use Rattle.lt_rewrite.proofs.PartRuns.{t_parts, source_explained}
 use Rattle.lt_rewrite.proofs.transform_explaining.explain_source.Goals as goal
 
--- a run on the source is one on the parts, as the source's steps come before those on the fields
+-- a run on the source is one on the parts, since the steps on the source come before those on the fields
 pub returns-clause-adds : goal.returns-clause-adds
 returns-clause-adds g c =
     let R = g.L.Lookup.listed c.args.table.now in
@@ -20,7 +20,7 @@ returns-clause-adds g c =
     (source_explained R c.args.start from to fs c.args.steps.now.items c.take_core_steps.new.steps.items h))
     c.take_core_steps.ensures.adds
 
--- no step is left on the core that was run on, which is now the source
+-- no step leads on from the core to which the run led, which is now the source
 pub returns-clause-at_rest : goal.returns-clause-at_rest
 returns-clause-at_rest g c =
     IfOk-weaker c.take_core_steps.result _ _

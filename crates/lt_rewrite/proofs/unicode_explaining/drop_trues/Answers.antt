@@ -30,8 +30,8 @@ same_count : (ks ls : List KeywordParts) (i : ℕ) (k l : KeywordParts) (n : ℕ
 same_count ks ls i k l n h e was is count = count ∙ ap (λ x. length (spell_keyword x)) (is ∙ ap (λ xs. get_or xs i l) e
     ∙ sym (get_or_read ks i k h was l))
 
--- the invariant stays true: a turn takes the sole type `true` from this keyword by a DropTrue step, or it has none and
--- stays as it is
+-- the invariant stays true: a turn drops the only type `true` of this keyword by a DropTrue step, or leaves the keyword
+-- if its types are not exactly `true`
 pub loop-index-preserved : goal.loop-index-preserved
 loop-index-preserved c =
     let ks = c.loop-index.keywords.items in
@@ -64,7 +64,7 @@ pub overflow_add-here-in-loop-index : goal.overflow_add-here-in-loop-index
 overflow_add-here-in-loop-index c =
     omega (arith, c.requires, bare_few c.args.start (loop-index-preserved c))
 
--- no keyword is left, so none has the sole type `true`
+-- no keyword is left, so none has `true` as its only type
 pub returns-clause-at_rest : goal.returns-clause-at_rest
 returns-clause-at_rest c =
     bare_all c.args.start c.loop-index.invariant

@@ -28,7 +28,7 @@ explain_drops-requires c =
           c.parts.view_is c.requires.few,
     )
 
--- drops have made the attributes no more
+-- after drops there are no more attributes
 pub explain_swaps-requires : goal.explain_swaps-requires
 explain_swaps-requires c =
     omega (
@@ -38,7 +38,7 @@ explain_swaps-requires c =
       drops_few c.in_ok-explain_drops.ensures.adds,
     )
 
--- drops and exchanges have made the attributes no more, after which the keywords begin
+-- after drops and exchanges there are no more attributes, and the keywords begin after them
 pub explain_drops-requires-2 : goal.explain_drops-requires-2
 explain_drops-requires-2 c =
     omega (
@@ -52,7 +52,7 @@ explain_drops-requires-2 c =
       c.explain_swaps.new.parts.ok.0,
     )
 
--- drops have made the keywords no more
+-- after drops the keywords have no more subtags
 pub explain_swaps-requires-2 : goal.explain_swaps-requires-2
 explain_swaps-requires-2 c =
     omega (
@@ -67,7 +67,7 @@ explain_swaps-requires-2 c =
       drops_few c.in_ok-explain_drops-2.ensures.adds,
     )
 
--- drops and exchanges have made the keywords no more
+-- after drops and exchanges the keywords have no more subtags
 pub drop_trues-requires : goal.drop_trues-requires
 drop_trues-requires c =
     omega (

@@ -14,7 +14,7 @@ variant_language_at-requires g c =
     (subst (λ vs. ArePlaces R vs c.args.places.now) (sym c.variants-variants.ensures.value) c.requires.places)
     c.loop-index-test.true c.index-variants-index.is
 
--- the answer is the leftmost: this variant leads to the language, and none before it leads to one
+-- the answer is right: this variant has a VariantLanguage step, which puts the language, and none before it has one
 pub returns-in-Some-clause-variant_language : goal.returns-in-Some-clause-variant_language
 returns-in-Some-clause-variant_language g c = search (rules, first_variant_language_at)
 

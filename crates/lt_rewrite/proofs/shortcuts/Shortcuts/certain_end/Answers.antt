@@ -5,7 +5,7 @@ use Rattle.lt_rewrite.proofs.Entries.{chains_end}
 use Rattle.lt_rewrite.proofs.ShortcutWalks.{onward_end}
 use Rattle.lt_rewrite.proofs.shortcuts.Shortcuts.certain_end.Goals as goal
 
--- a chain that ends has done so after as many values as there are records, so the copy is its end
+-- a chain that ends does so within as many values as there are records, so the copy is its end
 pub returns-clause-end : goal.returns-clause-end
 returns-clause-end g c =
     let R = g.L.Lookup.listed c.args.table.now in

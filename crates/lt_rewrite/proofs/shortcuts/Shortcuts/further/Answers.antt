@@ -6,8 +6,8 @@ use Rattle.lt_rewrite.specs.Shortcuts.{IsOnward, ShortcutParts}
 use Rattle.lt_rewrite.proofs.ShortcutWalks.{onward_form, led_far, some_follows}
 use Rattle.lt_rewrite.proofs.shortcuts.Shortcuts.further.Goals as goal
 
--- the answer is at least as many values on as there are records, or the end of the chain: the shortcut of the subtag's
--- entry leads to a record whose value is that
+-- the subtag leads to the answer over at least as many values as there are records, or to the end of its chain: the
+-- shortcut of its entry leads to a record with such a value
 pub returns-clause-onward : goal.returns-clause-onward
 returns-clause-onward g c =
     let R = g.L.Lookup.listed c.args.table.now in
