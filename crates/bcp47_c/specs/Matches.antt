@@ -98,8 +98,8 @@ TellsMatch R scheme range text before after o =
     IsMatchTold R scheme range text before after o
     ⊎ (IsRangeRefused R range before after o ⊎ IsTagRefused R range text before after o)
 
--- the number is that of a scheme, and the answer tells whether the range matches the tag of `text` by this scheme, or why
--- the range or the tag is refused; the buffer was `before` and is `after`
+-- the number is that of a scheme, and the answer tells whether the range matches the tag of `text` by this scheme, or
+-- why the range or the tag is refused; the buffer was `before` and is `after`
 pub record TellsByNumber (R : List EntryParts) (number : ℕ) (range text before after : List ℕ) (o : Outcome)
     : Type 0 where
   pub scheme : Scheme

@@ -64,7 +64,7 @@ IsToldFault R t told end faults.WrongEnd = IsValid R t × TellsOtherEnd R t told
 IsToldFault R t told end faults.OutOfMemory = Unit {0}
 
 -- The fault of a trace whose step number `n` is no step, by the fault of the steps before it: that fault, unless it
--- says only that they lead to another tag than the last. Then the fault is that there is no step `n`.
+-- is WrongEnd: they lead to another tag than the given one. Then the fault is that there is no step `n`.
 abbrev pub of_front : TraceFault → ℕ → TraceFault
 of_front (faults.Invalid fault) n = faults.Invalid fault
 of_front (faults.NoSuchStep m) n = faults.NoSuchStep m

@@ -161,8 +161,8 @@ fn langtag_of(tag: Tag) -> Result<Langtag, Said>
     }
 }
 
-/// The langtag that a text is read as, or why it is none. The 0 of the clause says that no subtag is left out when the
-/// place of a fault is counted.
+/// The langtag that a text is read as, or why it is none, or that memory ran out. The 0 of the clause says that no
+/// subtag is left out when the place of a fault is counted.
 fn read_langtag(alloc: Global, text: &[u8]) -> Result<Langtag, Said>
     ensures langtag { IfOk result (λ langtag. ReadsLangtag text.now (form langtag)) }
     ensures none { IfErr result (IsNoLangtag 0 text.now) }

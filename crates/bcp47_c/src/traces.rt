@@ -12,7 +12,7 @@ use bcp47::{Registry, Tag, Trace, TraceFault};
 use std::alloc::Global;
 
 /// The fault of a trace whose step number `next`, counted from 1, is no step. `fault` is that of the steps before it,
-/// and is kept, unless it says only that they lead to another tag than the last. Then the fault is that there is no
+/// and is kept, unless it is WrongEnd: they lead to another tag than the given one. Then the fault is that there is no
 /// step `next`.
 fn of_front(fault: TraceFault, next: usize) -> TraceFault
     ensures { result ≡ spec.of_front fault next }

@@ -84,7 +84,7 @@ fn words_of<'a>(line: &'a [u8]) -> Option<Words<'a>>
 }
 
 /// The step that a line names, and the text after it. None if the line names no step: it has too few words, or a name
-/// that no kind has, or a place or a number that is not printed as a number of 32 bits is.
+/// that no kind has, or a place or a number that is not written as a number of 32 bits is printed, for example `01`.
 pub(crate) fn read_step(line: &[u8]) -> Option<(Step, &[u8])>
     ensures { MatchOption result (IsNoName line.now) (λ p. IsStepLine line.now p.0 p.1.now) }
 {

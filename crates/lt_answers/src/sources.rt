@@ -20,7 +20,7 @@ fn add_subtags(text: &mut Vec<u8>, subtags: &[Subtag]) -> Result<(), AllocError>
     Ok(())
 }
 
-/// Appends a subtag to a text, after a hyphen, if there is one. `subtag.entry` is the parameter as it came in.
+/// Appends a hyphen and the subtag to a text, if there is a subtag. `subtag.entry` is the parameter as it came in.
 fn add_subtag(text: &mut Vec<u8>, subtag: Option<&Subtag>) -> Result<(), AllocError>
     ensures { OnOk result (text.new.items ≡ text.old.items ++ after_hyphens (option_to_list (option_copied subtag.entry))) }
 {

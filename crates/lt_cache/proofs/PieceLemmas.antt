@@ -27,7 +27,7 @@ pub piece_refused : (p : List ℕ) (fault : SubtagFault) → subtag_of p ≡ Err
 unfolding is_subtag
 piece_refused p fault h = grind (arith, nat_tests, length-map p to_ascii_lowercase, bytes_from_lower p)
 
--- what is no subtag is no key after the last one, and no type
+-- what is no subtag is neither a key after the last key nor a type
 pub next_none : (last : Option (List ℕ)) (s : List ℕ) → is_subtag s ≡ false → next_key last s ≡ None
 unfolding is_key is_long
 next_none last s h = grind (arith, nat_tests)

@@ -46,8 +46,8 @@ pub record IsCanonicalCore (R : List EntryParts) (front : List ℕ) : Type 0 whe
   pub read : HasTag front (core_alone core)
   pub canonical : IsCanonical R (core_alone core)
 
--- `canonical` is what follows the core, in conventional case, in the canonical text of each canonical core with this
--- end (RFC 5646, 2.1.1 and 4.5)
+-- for each canonical core: if the core with this end has at most 1,024 bytes, its canonical text is the core in
+-- conventional case, and then `canonical` (RFC 5646, 2.1.1 and 4.5)
 abbrev pub IsEndText : List EntryParts → (end canonical : List ℕ) → Type 0
 IsEndText R end canonical =
     (front : List ℕ) → IsCanonicalCore R front → length (front ++ end) ≤ longest_text →

@@ -38,7 +38,7 @@ impl Model for RecentEnds {
     ghost view = { λ ends. ends.texts };
 }
 
-/// Whether a text is a core whose subtags stay as they are. `texts` is used as room for it, and left as it was. False
+/// Whether a text is a core whose subtags stay as they are. `texts` is used as scratch space, and left as it was. False
 /// also if memory runs out.
 #[inline(always)]
 fn is_staying<L: Lookup>(checked: &Checked<L>, text: &[u8], texts: &mut Vec<u8>) -> bool

@@ -1,4 +1,5 @@
-//! Why a tag or a text has no canonical form.
+//! Why a tag or a text has no canonical form. A `From` below is what `?` calls to hand on a refusal, and its
+//! `from_gives` says which refusal it makes.
 ghost use Rattle.std.specs.Prelude.{◌≡◌};
 ghost use Rattle.lt_canon.specs.Names.{refusal_name_of, text_refusal_name_of};
 ghost use Rattle.lt_canon.specs.Refusals.{of_valid, of_valid_fault, no_memory, of_fault, of_refusal, no_text_memory};

@@ -22,8 +22,8 @@ pub(crate) fn second_occurrence(variants: &[Subtag]) -> Option<Subtag>
     None
 }
 
-/// The first variant from the left that has occurred before in the source of an extension, or None if none has. Memory
-/// is taken only for the parts of a `t` extension in which a subtag occurs twice.
+/// The first variant from the left that occurs a second time in the source of an extension, or None if none does.
+/// Memory is taken only for the parts of a `t` extension in which a subtag occurs twice.
 fn second_in_source(alloc: Global, extension: &Extension) -> Result<Option<Subtag>, OutOfMemory>
     ensures { IfOk result (λ found. MatchOption found
         (HasDistinctSource extension.now)

@@ -40,7 +40,7 @@ pub new_or_there : (xs : List RangeName) (a : RangeName) (added : Bool)
     → added ≡ not (list_any (eq_by_cmp range_order a) xs) → IsTrue added ↔ (Contains xs a → ⊥)
 new_or_there xs a added e = Decides-at added _ e (Decides-not _ (there xs a))
 
--- `ys` answers a look-up as `xs` does, but for the added range `a`, which it has: it contains what `xs` does, and `a`
+-- if `ys` answers look-ups as `xs` does, but has the range `a` too, then it contains what `xs` does, and `a`
 pub added_to : (xs ys : List RangeName) (a : RangeName)
     → ((q : RangeName) → list_any (eq_by_cmp range_order q) ys
     ≡ cond (eq_by_cmp range_order a q) true (list_any (eq_by_cmp range_order q) xs)) → (q : RangeName) → Contains ys q

@@ -62,9 +62,9 @@ pub record IsShownAfter (F rest : List ℕ) (p : AfterLanguage) : Type 0 where
   pub region_set : part_flagged F kinds.Region region ≡ true
   pub shown_is : (more : List ℕ) → take p.count (nine_before p.bytes more) ≡ shown_parts script region
 
--- `p`, which is shown of `rest`, is what is shown of a script `s` and a region `r`: then `rest` is made of these two,
--- and each has a flag. `hyphens`, the test of the hyphens, is true only of a `rest` that is so made; `holds` is the
--- whole test, and `more` are the zeros after what is shown.
+-- if the test holds for a script `s` and a region `r`, and `p` is what is shown of these, then `rest` is made of these
+-- two, and each has a flag. `hyphens`, the test of the hyphens, is true only of a `rest` that is so made; `holds` is
+-- the whole test, and `more` are the zeros after what is shown.
 after_cut : (F rest : List ℕ) (p : AfterLanguage) (s r : Option (List ℕ)) (more : List ℕ) (hyphens holds : Bool)
     → length rest ≤ 9 → holds ≡ (hyphens && (part_flagged F kinds.Script s && part_flagged F kinds.Region r))
     → after_if holds (length (shown_parts s r)) (shown_parts s r ++ more) ≡ Some p → (hyphens ≡ true → rest ≡ hyphened s ++ hyphened r)

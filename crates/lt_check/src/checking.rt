@@ -89,8 +89,8 @@ fn has_fitting_value<L: Lookup>(table: &L, shortcuts: &Shortcuts, entry: &Entry)
         && has_fitting_variant_value(table, entry)
 }
 
-/// Whether a record meets C6 (a variant whose value is a language has Prefixes, each of them one registered language)
-/// and C7 (each Prefix of a variant is a langtag without extensions and private use).
+/// Whether a record meets C6 (a variant whose value is a language has Prefixes, each of them one registered language
+/// without a value) and C7 (each Prefix of a variant is a langtag without extensions and private use).
 fn has_fitting_prefixes<L: Lookup>(table: &L, entry: &Entry) -> bool
     ensures { IsTrue result → HasFittingPrefixes (L.listed table.now) entry.now }
 {

@@ -1,6 +1,6 @@
--- Lemmas for the functions of `FirstRow`, which takes the first row of a text that comes in pieces. They lead from what
--- `take_text` does to the text after the byte order mark to what a piece, or the end of the bytes, does, whether the
--- mark is known before or not.
+-- Lemmas for the functions of `FirstRow`, which takes the first row of a text that comes in pieces. From what
+-- `take_text` does with the text after the byte order mark, they show what taking a piece, or the end of the bytes,
+-- does. The mark may be known before, or not.
 use Rattle.std.proofs.Common.{◌≡◌, ◌++◌, ◌∙◌, ◌⊎◌, inl, inr, ℕ, List, [], Bool, Option, Some, None, Result, Ok, Err}
 use Rattle.std.proofs.Common.{true, false, length, take, sym, ap, refl, subst, append_assoc, append-nil}
 use Rattle.std.proofs.Math.Seq.{take-append_seam}
@@ -16,8 +16,8 @@ use Rattle.lt_heading.specs.declared.first_rows.FirstRow.{FirstRow}
 
 -- ---- the mark is split off
 
--- The text after the mark was taken. `kept`, the bytes before, were split into `mark` and `text`. They are the new
--- mark and the new text, which is one row so far, or has a first row of the length `end`.
+-- All bytes so far, `kept`, were split into `mark` and `text`, and `text` was taken. Then these two are the new mark
+-- and the new text, and the new text is one row so far, or has a first row of the length `end`.
 pub begin_done : (S : Separator) (kept mark text old_text new_text new_mark : List ℕ) (place : Place) (end : Option ℕ)
     → SplitsMark kept mark text
     → old_text ≡ [] → new_mark ≡ take (length mark) kept → TakesText S text old_text new_text place (Ok end)

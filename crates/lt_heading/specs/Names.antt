@@ -11,8 +11,8 @@ use Rattle.lt_heading.specs.declared.names.Found.{Found}
 use Rattle.lt_heading.specs.declared.names.Found.TheVariants as founds
 use Rattle.lt_heading.specs.declared.names.Looked.{Looked}
 
--- a text in quotes as it is meant, with one quote (34) for each doubled one (RFC 4180, 2); `after_quote` says whether
--- the byte before it is a quote that was kept, so that a quote after it is left out
+-- a text in quotes as it is meant, with one quote (34) for each doubled one (RFC 4180, 2); if `after_quote`, the
+-- byte before the text is a quote that was kept, and a quote that begins the text is left out
 abbrev pub undoubled : (after_quote : Bool) → List ℕ → List ℕ
 undoubled after_quote [] = []
 undoubled after_quote (byte ∷ text) =

@@ -23,7 +23,8 @@ pub(crate) struct FirstRow {
     place: Place,
 }
 
-/// The place in a row after the bytes of `part`, by the place before them. Only a row of CSV has places within quotes.
+/// The place in a row after the bytes of `part`, given the place before them. Only CSV has quotes, so in TSV it is
+/// always `Fresh`.
 fn place_then(separator: Separator, place: Place, part: &[u8]) -> Place
     ensures { result ≡ spec.place_then separator place part.now }
 {

@@ -12,7 +12,7 @@ use Rattle.lt_jar.specs.Lines.{IsOneLine, begin_first, lines_of}
 abbrev pub IsNoEnd : ℕ → Type 0
 IsNoEnd byte = byte ≢ 10
 
--- a byte other than a line feed (10), in front of a text, is the front of the text's first line
+-- a byte other than a line feed (10), put before a text, goes to the front of the text's first line
 begins : (byte : ℕ) (text : List ℕ) → byte ≢ 10 → lines_of (byte ∷ text) ≡ begin_first byte (lines_of text)
 begins byte text other = ap (λ b. if b then [] ∷ lines_of text else begin_first byte (lines_of text)) (ne_eqb byte 10 other)
 

@@ -42,8 +42,8 @@ impl Engine {
         }
     }
 
-    /// Takes the end of a line, and tells whether the line ends the record. `last` are its bytes, without the line
-    /// feed, that come after those kept from pieces before. The number after that of the line must fit in 64 bits.
+    /// Takes the end of a line, and tells whether the line ends the record. `last` has those of its bytes, without the
+    /// line feed, that come after the bytes kept from earlier pieces. The number of the next line must fit in 64 bits.
     /// Refused with what is wrong with the line, or where memory runs out. A line that is refused is not counted. The
     /// clause `counted` supposes that no line feed is kept, as callers know.
     fn end_line(&mut self, alloc: Global, last: &[u8]) -> Result<Progress, JarFaultKind>

@@ -1,5 +1,5 @@
--- Lemmas on what is kept of a line that comes in pieces: it is what is to be kept of the line so far, and it tells
--- whether a row or a record is too long.
+-- Lemmas on the bytes that are kept of a line that comes in pieces. They are always `kept_of` the line so far: all of a
+-- row or a record, and the first 1,027 bytes of a tag. They tell whether a row or a record is too long.
 use Rattle.std.proofs.Common.{◌≡◌, ◌++◌, ◌∷◌, ◌∙◌, ℕ, List, [], true, false, length, sym, ap, subst, arith, append-nil}
 use Rattle.std.proofs.Common.{length-append, inl, inr}
 use Rattle.std.specs.List.{AllByRecursion}
@@ -12,7 +12,8 @@ use Rattle.lt_stream.proofs.PartLemmas.{kept_front, nothing_kept as none_kept}
 use Rattle.std.proofs.lemmas.Bool.Decides.{leb_tells}
 use Rattle.lt_lines.specs.declared.forms.LineForm.TheVariants as forms
 
--- `kept` is kept of a line, `last`; with what is to be kept of its next bytes, `part`, it is what is kept of both
+-- if `kept` is what is kept of a line, `last`, then with what is kept of its next bytes, `part`, it is what is kept of
+-- `last` and `part` together
 pub kept_more : (form : LineForm) (kept last part new : List ℕ) → kept ≡ kept_of form last
     → new ≡ kept ++ part_kept form (length kept) part → new ≡ kept_of form (last ++ part)
 kept_more forms.Tag kept last part new is e = kept_front longest_kept kept last part new is e
@@ -30,7 +31,7 @@ kept_open form kept last is inside = is
 
 -- ---- rows and records that are too long
 
--- the kept bytes are short with next bytes, `part`, that do not make the line too long
+-- the kept bytes and the next bytes, `part`, are short together, if `part` does not make the line too long
 pub short_by : (form : LineForm) (kept part : List ℕ) → (IsLongBy form (length kept) (length part) → ⊥) → IsShort form (kept ++ part)
 short_by forms.Tag kept part room = tt
 short_by (forms.Row row) kept part room = elim (leb_tells (length (kept ++ part)) longest_row) [

@@ -18,10 +18,10 @@ use Rattle.lt_stream.proofs.DeviceLemmas.{failed_from}
 use Rattle.lt_lines.proofs.EndLemmas.{too_long}
 use Rattle.lt_lines.proofs.TakenLemmas.{begun_front, taken_part, taken_write}
 
--- The turns over a piece took its front and wrote `written`, no write failed, and `rest` is left. A state that was
--- right before the piece is right with the front and `written` too (`taken`), and no more lines and line feeds were
--- counted than bytes were taken. `old` and `before` are the state and the output before the piece, `now` and `after`
--- those after the last turn.
+-- The turns over a piece took its front and wrote `written`, no write failed, and `rest` is left. If `old` is right for
+-- any bytes read and written, `now` is right for these with the front and `written` (`taken`), and no more lines and
+-- line feeds were counted than bytes were taken. `old` and `before` are the state and the output before the piece,
+-- `now` and `after` those after the last turn.
 pub record PieceTurn {W : Type 0} (T : Terms) (contents : W → Option (List ℕ)) (piece rest : List ℕ)
     (old now : Answering) (before after : Device W) : Type 0 where
   pub front : List ℕ

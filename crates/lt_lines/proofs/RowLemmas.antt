@@ -1,4 +1,5 @@
--- Lemmas for `answer_rows`: the parts that it appends for a row are together the answer that is owed for the row.
+-- Lemmas for the module `answer_rows`: the parts that it appends for a row are together the answer that is owed for the
+-- row.
 use Rattle.std.proofs.Common.{refl, ◌≡◌, ◌≤◌, ◌-◌, ◌++◌, ◌∷◌, ◌∙◌, [], ℕ, Bool, false, true, List, inl, inr, ap, arith}
 use Rattle.std.proofs.Common.{append_assoc, codes, drop, length, subst, sym, take, take-append-drop}
 use Rattle.std.proofs.lemmas.List.{drop-drop, drop-take, take_rest, take-take}

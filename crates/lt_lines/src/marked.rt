@@ -50,9 +50,9 @@ impl Marked {
         }
     }
 
-    /// Ends the wait for a byte order mark: writes the mark with which the kept bytes begin, if there is one, and answers
-    /// the lines of what follows it. Refused at a row or a record that is too long, and where memory runs out or a
-    /// write fails. The counts must have room for one line more than bytes are kept.
+    /// Ends the wait for a byte order mark: writes the mark with which the kept bytes begin, if there is one, and
+    /// answers the lines of what follows it. Refused at a row or a record that is too long, and where memory runs out
+    /// or a write fails. The counts must have room for one line more than bytes are kept.
     fn begin<L: Lookup, W: Write>(
         &mut self,
         alloc: Global,

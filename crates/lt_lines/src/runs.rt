@@ -123,7 +123,7 @@ pub fn run_tallied<L: Lookup, R: Read, W: Write>(
     end
 }
 
-/// Answers each line of a reader, which is a tag, by one line, in order, each ended by a line feed: its canonical text; or
+/// Takes each line of a reader as a tag, and answers it, in order, by one line with a line feed: its canonical text; or
 /// `! `, the name of the fault and its place; or `! ReplacementRepeats ` and the variant in lower case. It is
 /// [`run_tallied`] for tags, without a table of codes and without tallies.
 ///

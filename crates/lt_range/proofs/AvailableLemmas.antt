@@ -30,8 +30,8 @@ pub text_read : (texts : List (Bor (List ℕ))) (n : ℕ) (d : Bor (List ℕ)) �
     → (get_or texts n d).now ≡ text_at (map (λ (text : Bor (List ℕ)). text.now) texts) n
 text_read texts n d within = sym (get_or-map (λ (text : Bor (List ℕ)). text.now) texts n d [] within)
 
--- if each text before place `n` has its list, and the text there is refused by the number `n + 1`, this is the refusal
--- of all the texts
+-- if each text before place `n` has its list, and the text there is refused with the number `n + 1`, this is the
+-- refusal of all the texts
 pub refused_at : (R : List EntryParts) (texts : List (Bor (List ℕ))) (n : ℕ) (d : Bor (List ℕ)) (lists : List
     (List (List ℕ))) (refused : AvailableRefusal) → n < length texts
     → AreAvailable R (map (λ (text : Bor (List ℕ)). text.now) texts) n lists → refused.place ≡ n + 1

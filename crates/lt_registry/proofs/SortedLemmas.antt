@@ -28,7 +28,8 @@ use Rattle.lt_registry.specs.Sorted.{IsRowAt, AreRows, IsIndex}
 use Rattle.lt_registry.specs.Same.{same_list, same_extension, same_tag}
 use Rattle.lt_registry.specs.Parts.{EntryParts}
 
--- The order of tags says Equal exactly if two tags are the same.
+-- The order of tags says Equal exactly if two tags are the same, so a search by order finds what a test of equality
+-- finds.
 
 -- a first order and then a second one say Equal exactly if both do
 pub then_equal : (a b : Ordering) → is_eq (ordering_then a b) ≡ (is_eq a && is_eq b)

@@ -13,12 +13,13 @@ pub record ReadsPiece {I : Type 0} (remaining : I → Option (List ℕ)) (before
   pub calls : reads_of after ≡ one_more (reads_of before)
   pub failures : failures_of after ≡ failures_of before
 
--- after one read more, the device counts `turn` + 1 reads in all
+-- after one read more, the device counts `turn` + 1 reads since `input`
 pub read_more : {I : Type 0} (input before after : Device I) (turn : ℕ) → HasRead input before turn
     → reads_of after ≡ one_more (reads_of before) → HasRead input after (turn + 1)
 read_more input before after turn has more = more ∙ ap one_more has ∙ ap (after_reads (reads_of input)) (sym (add-one turn))
 
--- the first `count` bytes of the buffer, over whose front `items` a read put `buffer`, are just these
+-- if a read puts `buffer` over all `items` of a vector, which has `count` of them, its first `count` bytes are then
+-- `buffer`
 pub refilled : (count : ℕ) (items buffer : List ℕ) → count ≡ length items → length buffer ≡ length items
     → take count (buffer ++ drop (length buffer) items) ≡ buffer
 refilled count items buffer is same = ap (λ (n : ℕ). take n (buffer ++ drop (length buffer) items)) (is ∙ sym same)

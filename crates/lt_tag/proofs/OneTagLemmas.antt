@@ -1,5 +1,5 @@
 -- A list is spelled by one tag at most. So a text is read as one tag at most, the text of a tag is read as that tag
--- unless it is too long, and two tags have the same text exactly if they are equal: laws of `laws`.
+-- unless it is too long, and two tags have the same text exactly if they are equal: these are laws in `laws.rt`.
 use Rattle.std.proofs.Common.{◌≡◌, ℕ, ◌≤◌, ◌<◌, ◌-◌, Bool, true, false, ◌&&◌, not, zero, suc, List, [], ◌∷◌, length}
 use Rattle.std.proofs.Common.{refl, sym, ap, ◌∙◌, arith, eqb}
 use Rattle.std.specs.Prelude.{slice_index_or, ◌↔◌}

@@ -22,8 +22,8 @@ pub fn one_transform()
     ensures { (subtags : List (List ℕ)) (p q : TForm) → IsTransform subtags p → IsTransform subtags q → p ≡ q }
 {}
 
-/// `core_of_list` decides whether subtags are those of a core: it gives a core exactly if that core has its shape and
-/// spells them.
+/// `core_of_list` decides whether subtags are those of a core: it gives a core exactly if that core has the
+/// shape of a core (`IsCore`) and spells them.
 pub fn core_is_decided()
     ensures { (subtags : List (List ℕ)) (core : CoreParts) → (core_of_list subtags ≡ Some core) ↔ (IsCore core × (spell_core core ≡ subtags)) }
 {}

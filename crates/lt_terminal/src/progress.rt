@@ -73,8 +73,8 @@ impl<'a, W: Write, T: Write> Write for Progress<'a, W, T> {
     ghost contents = { λ progress. W.contents (inner_of progress.inner) };
 
     /// Writes once to the writer, and counts the lines that it took, if a person is told of them; else nothing is
-    /// written to people (`told`). As with every writer, it takes no more than `buf` (`bound`), and what it takes
-    /// follows what it took before (`bytes`). An error is a failure of its device (`fails`).
+    /// written to people (`told`). As with every writer, it takes no more bytes than `buf` has (`bound`), and what
+    /// it takes follows what it took before (`bytes`). An error is a failure of its device (`fails`).
     fn write(&mut self, buf: &[u8]) -> io::Result<usize>
         ensures bound { WritesAtMost result buf.now }
         ensures bytes { WriteAppends (W.contents (inner_of self.old.inner)) (W.contents (inner_of self.new.inner)) result buf.now }

@@ -28,7 +28,8 @@ use std::io::{self, Read, Write};
 const INPUT_PATH: &str = "/dev/stdin";
 
 /// The path of the file that a name on the command line means. `@` means the path `registry`. `-` means the standard
-/// input, unless `is_taken` says that the command reads that for its lines. Every other name is a path.
+/// input, unless `is_taken` says that the command reads that for its lines. Every other name is a path, and so is a `-`
+/// that is taken.
 pub fn path_of<'a>(name: &'a str, is_taken: bool, registry: &'a str) -> &'a str
     ensures { IsPath is_taken registry.entry.now name.entry.now result.now }
 {

@@ -169,7 +169,7 @@ fn match_lines<I: Read, O: Write>(
     }
 }
 
-/// The valid tag that a text is read as, or why it is no tag or not valid.
+/// The valid tag that a text is read as, or why it is no tag or not valid. Refused also where memory runs out.
 fn valid_tag<L: Lookup>(
     alloc: Global,
     checked: &Checked<L>,

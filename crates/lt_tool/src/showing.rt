@@ -159,7 +159,8 @@ fn show_text<L: Lookup, O: Write>(
     }
 }
 
-/// Whether one of two is true. It is a function so that the proof of the loop over the texts has its clause.
+/// Whether at least one of two is true. It is a function so that the proof of the loop over the texts can use its
+/// clause.
 fn either(one: bool, other: bool) -> bool
     ensures { result ≡ (one || other) }
 {

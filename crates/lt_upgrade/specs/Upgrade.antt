@@ -49,8 +49,8 @@ KeepsKind kinds.Variant v = is_short v ≡ false
 KeepsKind kinds.Grandfathered v = ⊥
 KeepsKind kinds.Redundant v = ⊥
 
--- by the newer registry, the chains of values from an older subtag and from its older value of the same kind end in one
--- subtag (U2)
+-- by the newer registry, the chains of values from a subtag of the older registry and from the value that it has there,
+-- if that is of the same kind, end in one subtag (U2)
 abbrev pub KeepsEnds : List EntryParts → EntryParts → Type 0
 KeepsEnds B e =
     (s v : List ℕ) → e.name ≡ names.Single s → one_of e.value ≡ Some v

@@ -28,7 +28,8 @@ returns-in_err-check_pieces-clause-fault c =
     (fault_behind_first c.args.text.now _ _ _ split read c.in_err-check_pieces.field-0.0
     c.in_err-check_pieces.ensures))
 
--- the fault is BadLanguage at 1: all pieces are subtags, and no langtag or private use tag begins with the first of them
+-- the fault is BadLanguage at 1: all pieces are subtags, and no langtag or private use tag begins with the first of
+-- them
 pub returns-in_default-clause-fault : goal.returns-in_default-clause-fault
 returns-in_default-clause-fault c =
     let split = c.cut_piece.ensures.pieces in
