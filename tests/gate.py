@@ -149,7 +149,8 @@ class Gate:
         tasks.update({(name, "edits"): self.ledger.crates[name].task([(name, "proof")], due) for name, due in self.due.items()})
         waits = [(it.name, "proof") for it in self.crates if not it.makes_rlib()] + [(it, "tests") for it in self.words.after]
         run = lambda given, jobs: not self.words.command or not called(self.words.command).returncode
-        tasks["the scripts", "scripts"] = waits, 2000 * bool(self.words.command), 0, run
+        # (they take all processors, so what takes one comes before them)
+        tasks["the scripts", "scripts"] = waits, 1500 * bool(self.words.command), 0, run
         found = build.Lanes(rt, tasks).run()
         self.is_well = all(found.values())
         return {**found, **{(name, "edits"): ([], [], []) for name in self.due}}
