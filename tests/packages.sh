@@ -6,7 +6,7 @@ wanted="gcc g++ clang binutils jq valgrind qemu-user libsqlite3-dev sqlite3 pyth
 wanted="$wanted node-typescript golang-go golang-golang-x-text-dev libmaven-compiler-plugin-java libmaven-jar-plugin-java libmaven-resources-plugin-java libsurefire-java
     librust-serde-dev maven openjdk-17-jdk-headless python3-dask python3-distributed"
 # for packages and releases
-wanted="$wanted binutils-aarch64-linux-gnu build-essential curl debhelper dh-python gcc-aarch64-linux-gnu libc6-dev-arm64-cross lintian
+wanted="$wanted binutils-aarch64-linux-gnu build-essential curl debhelper dh-python gcc-aarch64-linux-gnu gpg libc6-dev-arm64-cross lintian
     qemu-user"
 missing=
 for package in $wanted; do

@@ -77,12 +77,19 @@ git ls-files -z | tar --null -T - -cf - | tar -xf - -C "$folder/copy"
 # what is built, but for the Debian of make fresh-debian
 find build -mindepth 1 -maxdepth 1 ! -name debian -exec cp -r {} "$folder/copy/build" \;
 umask 077
-TZ=Asia/Tokyo LC_ALL=C.UTF-8 passes "make dist, again" "$folder/copy/packaging/dist.sh" "$folder/again"
+export GNUPGHOME=$folder/gnupg
+mkdir "$GNUPGHOME"
+passes "a key" gpg --batch --quiet --passphrase '' --quick-gen-key release@example
+TZ=Asia/Tokyo LC_ALL=C.UTF-8 SIGNING_KEY=release@example passes "make dist, again" "$folder/copy/packaging/dist.sh" "$folder/again"
 umask 022
-passes "two runs give the same bytes" diff -r "$folder/dist" "$folder/again"
+passes "two runs give the same bytes" diff -r -x SHA256SUMS.asc "$folder/dist" "$folder/again"
+passes "the sums are signed" gpg --batch --verify "$folder/again/SHA256SUMS.asc" "$folder/again/SHA256SUMS"
 passes "SHA256SUMS" env -C "$folder/dist" sha256sum --check --strict SHA256SUMS
 is "SHA256SUMS names every file" "$(find "$folder/dist" -type f ! -name SHA256SUMS -printf '%f\n' | LC_ALL=C sort)" \
     "$(sed 's/.* //' "$folder/dist/SHA256SUMS" | LC_ALL=C sort)"
+is "what Maven's repositories take" \
+    "bcp47-$version-javadoc.jar bcp47-$version-sources.jar bcp47-$version.jar bcp47-$version.pom bcp47-registry-2025.05.15.jar bcp47-registry-2025.05.15.pom" \
+    "$(cd "$folder/dist" && LC_ALL=C ls -- *.jar *.pom | paste -s -d ' ')"
 mkdir "$folder/unpacked"
 passes "the program's archive" tar -xzf "$folder/dist/langtag-$version-x86_64-linux.tar.gz" -C "$folder/unpacked" --strip-components=1
 passes "the program of the archive runs" "$folder/unpacked/bin/langtag" check "$folder/unpacked/share/langtag/registry.txt"

@@ -66,6 +66,10 @@ passes "lines of at most 140 columns in definitions and proofs${wide:+: $wide}" 
 bare=$(git grep -L '^ *--' -- 'crates/*/Answers.antt')
 passes "a comment in each file of answers${bare:+: $bare}" test -z "$bare"
 passes "the codes of three letters" tools/language_codes.py
+passes "the group of Maven is a domain's" grep -qE '^maven_group = [a-z0-9]+([.][a-z0-9-]+)+$' packaging/PUBLISHER
+for page in PYTHON RUST NODE JAVA GO; do
+    passes "docs/$page.md says where registry.txt is from" grep -q '^    curl -fsSo registry.txt https://www.iana.org/' "docs/$page.md"
+done
 
 # Each example of docs/LIBRARY.md stands so in the file that it names, item by item; the first is a whole program.
 passes "docs/LIBRARY.md's examples are those of its crates" python3 -B - << 'END'

@@ -543,7 +543,7 @@ static PyObject *registry_available(PyObject *self, PyObject *tags) {
     bcp47_outcome outcome = {.status = BCP47_OUT_OF_MEMORY};
     for (; texts && bytes && lengths && i < count && item_has_text(PyTuple_GetItem(tags, i), texts + i, i); i++)
         bytes[i] = texts[i].bytes, lengths[i] = texts[i].length;
-    if (texts && bytes && lengths && i == count)
+    if (texts && bytes && lengths && i == count && opened(self))
         outcome = bcp47_available_open(&available, registry->registry, bytes, lengths, (size_t)count);
     while (i) end_text(texts + --i);
     free(texts), free(bytes), free(lengths);

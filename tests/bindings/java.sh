@@ -65,7 +65,6 @@ for path in "groupId artifactId version name description url licenses/license/na
     assert found is not None and found.text.strip(), path' "$pom"
     done
     passes "Java: no call for many tags, which a loop serves as well" sh -c '! grep -ri "canonicalMany" bindings/java/src/main'
-    passes "Java: its module has a name" sh -c 'unzip -p "$1" META-INF/MANIFEST.MF | grep -q "^Automatic-Module-Name: bcp47"' - "$jar"
     if java -Djava.security.manager -version > /dev/null 2>&1; then
         printf '%s\n' 'grant { permission java.io.FilePermission "<<ALL FILES>>", "read"; permission java.util.PropertyPermission "*", "read";' \
             'permission java.lang.RuntimePermission "accessDeclaredMembers"; };' > "$folder/policy"
@@ -93,7 +92,9 @@ for path in "groupId artifactId version name description url licenses/license/na
         echo "no Maven with Debian's plugins here: the package for Java is not built by it"
     fi
     for made in "$folder"/target/*.jar "$folder"/maven/bindings/java/target/*.jar; do
-        [ ! -e "$made" ] || passes "Java: $(basename "$made") has the licences" test "$(jar -tf "$made" | grep -c '^META-INF/LICENSE')" = 3
+        [ -e "$made" ] || continue
+        passes "Java: $(basename "$made") has the licences" test "$(jar -tf "$made" | grep -c '^META-INF/LICENSE')" = 3
+        passes "Java: $(basename "$made") has a module's name" sh -c 'unzip -p "$1" META-INF/MANIFEST.MF | grep -q "^Automatic-Module-Name: bcp47"' - "$made"
     done
     passes "java.util.Locale: the package for Python" $python -m pip install -q --no-index --root-user-action=ignore \
         --target "$folder/package" bindings/python

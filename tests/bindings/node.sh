@@ -35,13 +35,17 @@ if command -v node > /dev/null && command -v npm > /dev/null && [ -e "${NODE_HEA
     passes "Node.js: its licence" cmp LICENSE-MIT "$folder/page/node_modules/bcp47/LICENSE-MIT"
     passes "Node.js: its page" cmp docs/NODE.md "$folder/page/node_modules/bcp47/README.md"
     passes "Node.js: its words, and that each system may install it" env -C "$folder/page" node -e \
-        'const { keywords, os, cpu, libc } = require("./node_modules/bcp47/package.json"); process.exit(keywords.includes("bcp47") && !os && !cpu && !libc ? 0 : 1)'
+        'const { keywords, files, os, cpu, libc } = require("./node_modules/bcp47/package.json"); process.exit(keywords.includes("bcp47") && files.includes("bcp47.wasm") && !os && !cpu && !libc ? 0 : 1)'
     passes "Node.js: by require" env -C "$folder/page" node -e 'process.exit(`${new (require("bcp47").Tag)("EN")}` === "en" ? 0 : 1)'
     passes "Node.js: bundled, without its package" env -C "$folder/page" \
         node -e 'try { require("bcp47").Registry.bundled() } catch ({ code }) { process.exit(code === "MODULE_NOT_FOUND" ? 0 : 1) }; process.exit(1)'
     passes "Node.js: npm pack, the registry" env -C bindings/node/registry npm pack --silent --pack-destination "$folder/page"
     passes "Node.js: npm install, the registry" env -C "$folder/page" npm install --silent --offline --no-audit --no-fund "$folder"/page/bcp47-*.tgz
     passes "Node.js: bundled" env -C "$folder/page" node -e 'process.exit(require("bcp47").Registry.bundled().canonical("zh-yue") === "yue" ? 0 : 1)'
+    cp -r "$folder/page/node_modules" "$folder/node_modules"
+    rm "$folder/node_modules/bcp47/bcp47.node"
+    passes "Node.js: without the addon, by WebAssembly, or else it is what lacks" env -C "$folder" node -e \
+        'try { require("bcp47") } catch ({ cause }) { process.exit(`${cause}`.includes("bcp47.wasm") ? 0 : 1) }'
     if command -v tsc > /dev/null; then
         cp bindings/node/test/types.ts "$folder/page"
         passes "Node.js: types" env -C "$folder/page" tsc --noEmit --strict --module node16 --moduleResolution node16 --target es2020 --lib es2020,dom types.ts

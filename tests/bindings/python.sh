@@ -68,6 +68,33 @@ under="env PYTHONPATH=$folder/package-memory PYTHONMALLOC=malloc ASAN_OPTIONS=de
     passes "Python: growths, signals, threads, columns under sanitizers" $under bindings/python/tests/test_habits.py "$sample" Growths \
         Signals Facts Parts Refusals Columns.test_missing_values Columns.test_long_columns Threads.test_a_registry_is_closed_in_the_midst_of_calls
 }
+# By stand-ins: what Python from 3.12 on is told, which loads no other module for interpreters with a lock of their own; and a library that is busy.
+made_over() {
+    printf '%b\n' "#include <bcp47.h>" "$3" > "$folder/stand-in.c"
+    mkdir "$folder/$1"
+    cp bindings/python/bcp47/*.py "$folder/$1"
+    passes "the extension over another $2" gcc -shared -std=c11 -fPIC -Ibindings/c "-I$($python -c 'import sysconfig; print(sysconfig.get_paths()["include"])')" \
+        bindings/python/_bcp47.c "$folder/stand-in.c" build/libbcp47.a "-Wl,--wrap=$2" -o "$folder/$1/_bcp47.abi3.so"
+}
+made_over of312 Py_GetVersion 'const char *__wrap_Py_GetVersion(void) { return "3.12.0"; }'
+passes "Python 3.12 is told that each interpreter may have its lock" $python -c '
+import ctypes, sys
+begin, at = ctypes.PyDLL(sys.argv[1]).PyInit__bcp47, ctypes.c_void_p.from_address
+begin.restype = ctypes.c_void_p
+made = begin()
+assert ctypes.cast(at(made + 8).value, ctypes.py_object).value.__name__ == "moduledef"
+assert [at(at(made + 72).value + 8 * number).value for number in range(2, 6)] == [3, 2, None, None]' "$folder/of312/_bcp47.abi3.so"
+mkdir "$folder/busy"
+made_over busy/bcp47 bcp47_canonical,--wrap=bcp47_validate 'bcp47_outcome __wrap_bcp47_canonical(void) { return (bcp47_outcome){.status = BCP47_BUSY}; }
+bcp47_outcome __wrap_bcp47_validate(void) { return __wrap_bcp47_canonical(); }'
+passes "a busy library is want of memory" env PYTHONPATH="$folder/busy" $python -B -c '
+import bcp47, sys
+registry = bcp47.Registry.from_file(sys.argv[1])
+for call in (registry.canonical, registry.is_valid, lambda tag: registry.canonical_many([tag]), lambda tag: registry.canonical_columns([tag])):
+    try:
+        sys.exit(f"it answers {call(str())}")
+    except MemoryError:
+        pass' "$sample"
 # Each line of the extension.
 passes "compile the extension for gcov" gcc -O0 --coverage -std=c11 -fPIC -fvisibility=hidden -Ibindings/c \
     "-I$($python -c 'import sysconfig; print(sysconfig.get_paths()["include"])')" -c bindings/python/_bcp47.c -o "$folder/coverage/_bcp47.o"

@@ -5,6 +5,7 @@ import { readFileSync } from 'node:fs';
 import { createRequire } from 'node:module';
 import { test } from 'node:test';
 import { inspect } from 'node:util';
+import { setFlagsFromString } from 'node:v8';
 import { runInNewContext } from 'node:vm';
 import { Worker } from 'node:worker_threads';
 import { Refusal, Refused, RefusedRegistry, RefusedTag, Registry, Tag, version } from '../index.mjs';
@@ -135,6 +136,21 @@ test('refusals in a list are answers', () => {
   assert.ok(bad.help.includes('hyphen') && repeated.help.includes('repeat the variant'));
 });
 
+test('a refused tag in a list costs not much more than a valid one', () => {
+  const cost = (tag) => {
+    const tags = Array(10_000).fill(tag), times = [];
+    for (let round = 0; round < 7; round++) {
+      const begun = process.cpuUsage();
+      registry.canonicalMany(tags);
+      const { user, system } = process.cpuUsage(begun);
+      times.push(user + system);
+    }
+    return Math.min(...times);
+  };
+  const [valid, refused] = [cost('zh-yue'), cost('zh_yue')];
+  assert.ok(refused < 6 * valid, `${refused} µs, where valid ones take ${valid}`);
+});
+
 test('a refusal crosses to another thread by its cause', () => {
   const sent = structuredClone(new RefusedTag(registry.canonicalMany(['en_US'])[0]));
   assert.deepEqual([sent.message, { ...sent.cause }], ['BadByte 1', { status: 'NotATag', fault: 'BadByte', place: 1, tag: 'en_US' }]);
@@ -143,6 +159,13 @@ test('a refusal crosses to another thread by its cause', () => {
 test('a refusal keeps no more of a text than a tag can have', () => {
   assert.throws(() => registry.canonical('a'.repeat(100_000_000)), ({ tag }) => tag === 'a'.repeat(1024));
   assert.equal(registry.canonicalMany(['a'.repeat(1025)])[0].tag.length, 1024);
+});
+
+test('a longer text is let go', () => {
+  setFlagsFromString('--expose-gc');
+  const gc = runInNewContext('gc'), used = () => (gc(), process.memoryUsage().heapUsed), before = used();
+  const kept = Array.from({ length: 20 }, (_, i) => registry.canonicalMany([`${i}${'a'.repeat(5_000_000)}`])[0]);
+  assert.ok(used() - before < 20_000_000 && kept.length === 20, `${used() - before} bytes`);
 });
 
 test('the longest text has room', () => {
@@ -257,6 +280,7 @@ test('which registry it is', () => {
 });
 
 test('a registry that is closed', () => {
+  assert.equal(Registry.prototype[Symbol.dispose ?? 'close'], Registry.prototype.close);
   const own = Registry.fromFile(sample);
   own.close();
   own.close();

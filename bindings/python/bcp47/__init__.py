@@ -83,7 +83,7 @@ class RefusedTag(Refused):
     @property
     def variant(self) -> Optional[str]:
         """The variant that replacements can repeat, where that is why."""
-        return str(self).split(" ")[1] if self.status == "ReplacementRepeats" else None
+        return str(self).partition(" ")[2] or None if self.status == "ReplacementRepeats" else None
 
     @property
     def tag(self) -> str:

@@ -273,6 +273,10 @@ class Calls(unittest.TestCase):
             refused = raised.exception
             self.assertEqual((refused.status, refused.fault, refused.place, refused.tag), ("BadHeader", "BadWeight", 2, "en, de;q=2"))
             self.assertRaises(TypeError, call, 7)
+        for call in (available.best, available.filter):
+            with self.assertRaises(bcp47.RefusedTag) as raised:
+                call("en, ja-heploc-alalc97")
+            self.assertEqual((raised.exception.status, raised.exception.variant), ("ReplacementRepeats", None))
         none = self.registry.available([])
         self.assertEqual((none.best("de"), none.filter("*")), (None, []))
         with self.assertRaises(bcp47.RefusedTag) as raised:

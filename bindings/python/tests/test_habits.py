@@ -148,7 +148,11 @@ class Parts(unittest.TestCase):
             self.assertFalse(hasattr(tag, name))
         with self.assertRaisesRegex(AttributeError, "'Tag' object has no attribute 'regions'"):
             tag.regions
-        self.assertIs(tag.region, tag.region)
+        tag = bcp47.Tag("en-US")
+        self.assertEqual(tag.region, "US")
+        for name in bcp47.Tag.__slots__:
+            # which calls no __getattr__
+            object.__getattribute__(tag, name)
 
     def test_parts_of_a_wrong_type(self):
         tag = bcp47.Tag("en-US")
@@ -167,7 +171,7 @@ class Parts(unittest.TestCase):
             told = {}
             exec("match tag:\n    case bcp47.Tag('en-US'): found = True", {"tag": tag, "bcp47": bcp47}, told)
             self.assertEqual(told, {"found": True})
-        for it in (tag, bcp47.Registry.from_file(SAMPLE)):
+        for it in (tag, bcp47.Registry.from_file(SAMPLE), registry.available([])):
             self.assertIs(weakref.ref(it)(), it)
 
 
@@ -231,6 +235,20 @@ class Refusals(unittest.TestCase):
         self.assertLess(refused, 20 * answered)
         one, other = registry.canonical_many(["en_US", "de_DE"])
         self.assertTrue(all(mine is others for mine, others in zip(one.args[:5], other.args)))
+        # no code of Python makes one
+        self.assertEqual((bcp47.RefusedTag.__new__, bcp47.RefusedTag.__init__), (ValueError.__new__, ValueError.__init__))
+
+    def test_none_is_made_where_none_is_given(self):
+        def made(*told):
+            raise ZeroDivisionError
+
+        others = (bcp47.RefusedRegistry, bcp47.RefusedUpgrade, bcp47.RefusedTrace, bcp47.Tag, bcp47._bcp47.Registry, {})
+        bcp47._bcp47.setup((made, *others))
+        try:
+            self.assertRaises(ZeroDivisionError, registry.canonical, "en_US")
+            self.assertEqual((registry.is_valid("en_US"), registry.canonical_columns(["en_US"])), (False, ([None], ["BadByte 1"])))
+        finally:
+            bcp47._bcp47.setup((bcp47.RefusedTag, *others))
 
     def test_what_only_says_that_it_is_a_registry(self):
         class Proxy:
@@ -352,6 +370,16 @@ class Signals(unittest.TestCase):
             finally:
                 signal.signal(signal.SIGALRM, before)
 
+    def test_handlers_run_within_a_long_column(self):
+        own, tags = bcp47.Registry.from_file(SAMPLE), ["zh-yue"] * 3_000_000
+        before = signal.signal(signal.SIGALRM, lambda *_: own.close())
+        signal.setitimer(signal.ITIMER_REAL, 0.01)
+        try:
+            with self.assertRaisesRegex(ValueError, "the registry is closed"):
+                own.canonical_many(tags)
+        finally:
+            signal.signal(signal.SIGALRM, before)
+
 
 class Threads(unittest.TestCase):
     def test_a_registry_is_closed_in_the_midst_of_calls(self):
@@ -369,6 +397,19 @@ class Threads(unittest.TestCase):
                         self.assertEqual(str(error), "the registry is closed")
             self.assertTrue(own.closed)
 
+    def test_a_list_is_made_while_a_tag_closes_the_registry(self):
+        own = bcp47.Registry.from_file(SAMPLE)
+        tag = type("Closing", (bcp47.Tag,), {"__str__": lambda self: own.close() or "en"})("en")
+        self.assertRaisesRegex(ValueError, "^the registry is closed$", own.available, [tag])
+
+    def test_a_registry_is_closed_while_a_tag_tells_its_text(self):
+        """As a handler or another thread may do while code of Python runs."""
+        for call in (lambda: own.canonical(tag), lambda: own.is_valid(tag), lambda: own.equivalent("en", tag), lambda: own.matches("en", tag),
+                     lambda: own.explain(tag), lambda: own.show(tag), lambda: own.verify("en", [], tag), lambda: own.canonical_many(["en", tag])):
+            own = bcp47.Registry.from_file(SAMPLE)
+            tag = type("Closing", (bcp47.Tag,), {"__str__": lambda self: own.close() or "en"})("en")
+            self.assertRaisesRegex(ValueError, "^the registry is closed$", call)
+
     def test_the_first_call_that_shows_a_tag_is_made_by_many(self):
         for _ in range(20):
             own = bcp47.Registry.from_file(SAMPLE)
@@ -382,6 +423,12 @@ class Threads(unittest.TestCase):
                     except ValueError as error:
                         self.assertEqual(str(error), "the registry is closed")
 
+    def test_columns_of_many_threads(self):
+        with concurrent.futures.ThreadPoolExecutor(4) as pool:
+            calls = [(tag, pool.submit(registry.canonical_many, [tag] * 100_000)) for tag in ("iw", "zh-yue", "I-KLINGON", "DE")]
+            for tag, call in calls:
+                self.assertEqual({*call.result(60)}, {registry.canonical(tag)})
+
     def test_other_threads_go_on(self):
         """A thread runs while another one's call is under way."""
         turns = []
@@ -392,6 +439,24 @@ class Threads(unittest.TestCase):
             turns.append(time.monotonic())
             time.sleep(0.001)
         self.assertGreater(len(turns), 5)
+
+    def test_what_is_under_way_is_answered(self):
+        def ask(own):
+            told = set()
+            try:
+                while True:
+                    told.update(map(str, own.canonical_many(["zh-yue"] * 2000)))
+            except ValueError:
+                return told
+
+        for _ in range(20):
+            own = bcp47.Registry.from_file(SAMPLE)
+            with concurrent.futures.ThreadPoolExecutor(4) as pool:
+                calls = [pool.submit(ask, own) for _ in range(4)]
+                time.sleep(0.003)
+                own.close()
+                for call in calls:
+                    self.assertLessEqual(call.result(60), {"yue"})
 
     def test_what_the_collector_shows_is_whole(self):
         thread = threading.Thread(target=registry.canonical_columns, args=(["iw", "e_n"] * 200_000,))
@@ -419,7 +484,7 @@ class Columns(unittest.TestCase):
         self.assertEqual(registry.canonical_many([NAType(), decimal.Decimal("nan")]), [None, None])
         self.assertRaises(TypeError, registry.canonical_many, [type("Other", (NAType,), {})()])
         self.assertRaises(ZeroDivisionError, registry.canonical_many, [type("Wrong", (), {"__ne__": lambda self, other: 1 // 0})()])
-        for wrong in (1, b"en", 1.5, ["en"]):
+        for wrong in (1, b"en", 1.5, ["en"], type("NAType", (), {})()):
             self.assertRaises(TypeError, registry.canonical_many, [wrong])
         for wrong in ("zh-yue", b"zh", bcp47.Tag("zh"), 7, None):
             self.assertRaises(TypeError, registry.canonical_many, wrong)

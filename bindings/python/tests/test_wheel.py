@@ -3,6 +3,7 @@ import base64
 import hashlib
 import os
 import platform
+import re
 import subprocess
 import sys
 import tarfile
@@ -35,6 +36,8 @@ class Wheels(unittest.TestCase):
         self.assertIn(b"Root-Is-Purelib: false\n", files[f"{info}/WHEEL"])
         self.assertIn(b"License: MIT OR Apache-2.0\n", files[f"{info}/METADATA"])
         self.assertEqual(files["bcp47/_bcp47.abi3.so"][:4], b"\x7fELF")
+        asked = [tuple(map(int, version.split(b"."))) for version in re.findall(rb"\0GLIBC_([0-9.]+)(?=\0)", files["bcp47/_bcp47.abi3.so"])]
+        self.assertTrue((2, 0) < max(asked) <= (2, 17), asked)
         rows = [row.split(",") for row in files[f"{info}/RECORD"].decode().splitlines()]
         self.assertEqual([row[0] for row in rows], list(files))
         for file, digest, length in rows[:-1]:

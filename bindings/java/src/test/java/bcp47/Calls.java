@@ -395,7 +395,9 @@ final class Calls {
 
     /** That memory runs out, or is too little for many calls at once, is no fault of a tag. */
     private static void busy() {
-        thrown(BusyException.class, () -> Refusal.of(new long[] {15, 0, 0, 0, 0}, null));
+        BusyException busy = thrown(BusyException.class, () -> Refusal.of(new long[] {15, 0, 0, 0, 0}, null));
+        // it is none of those that tell of a closed registry, or of a refusal
+        is(RuntimeException.class, busy.getClass().getSuperclass());
         thrown(OutOfMemoryError.class, () -> Refusal.of(new long[] {4, 0, 0, 0, 0}, null));
     }
 
