@@ -23,9 +23,11 @@ printf 'no registry\n' > bad
 mkdir wrong && cp sample wrong/2020-01-01.txt && chmod 755 wrong && chmod 644 bad wrong/*
 is 'from version 1.0' "WARNING:  default value for column canonical of table generated does not name its registry: replace it by one that does, else its dump can't be restored
 WARNING:  index by_canonical does not name its registry: replace it by one that does, else its dump can't be restored
+WARNING:  table parted does not name its registry: replace it by one that does, else its dump can't be restored
 t" ask -c "CREATE EXTENSION bcp47 VERSION '1.0'" -c 'CREATE TABLE old (tag text DEFAULT bcp47_canonical($$en$$))' \
     -c 'CREATE INDEX by_canonical ON old (bcp47_canonical(tag))' -c 'CREATE TABLE generated (tag text, canonical text GENERATED ALWAYS AS (bcp47_canonical(tag)) STORED)' \
-    -c 'ALTER EXTENSION bcp47 UPDATE' -c 'DROP TABLE old, generated' -c "SELECT bcp47_equivalent(first => 'iw', second => 'he')" -c 'DROP EXTENSION bcp47'
+    -c 'CREATE TABLE parted (tag text) PARTITION BY LIST (bcp47_canonical(tag))' \
+    -c 'ALTER EXTENSION bcp47 UPDATE' -c 'DROP TABLE old, generated, parted' -c "SELECT bcp47_equivalent(first => 'iw', second => 'he')" -c 'DROP EXTENSION bcp47'
 is extension '' ask -c 'CREATE EXTENSION bcp47'
 is answers 'yue|t|BadByte 1
 NULL|NULL|NULL|f

@@ -55,7 +55,7 @@ class Habits(unittest.TestCase):
         first.execute("CREATE TABLE books (tag TEXT)")
         first.execute("INSERT INTO books VALUES ('iw')")
         for what in ("bcp47_canonical(tag)", "bcp47_fault(tag)", "bcp47_equivalent(tag, 'he')", "bcp47_match('he', tag)", "bcp47_show(tag)",
-                     "bcp47_explain(tag)"):
+                     "bcp47_explain(tag)", "bcp47_best('he', tag)"):
             for statement in (f"CREATE INDEX by_any ON books ({what})", f"CREATE INDEX some ON books (tag) WHERE {what} IS NULL",
                               f"CREATE TABLE other (tag TEXT, it TEXT AS ({what}))"):
                 with self.assertRaisesRegex(sqlite3.OperationalError, "non-deterministic functions prohibited", msg=statement):

@@ -11,7 +11,7 @@
 #define DEEPEST (BCP47_SLOTS + 9)
 static const char unusual[] = "en-u-nu-latn-ca-buddhist", usual[] = "zh-yue";
 static const char rows[] =
-    "[{\"place\":1,\"kind\":\"Language\",\"text\":\"yue\",\"listing\":\"Record\",\"record\":16,\"fields\":[]}]";
+    "[{\"place\":1,\"kind\":\"Language\",\"text\":\"iw\",\"listing\":\"Record\",\"record\":9,\"fields\":[{\"name\":\"Preferred-Value\",\"body\":\"he\"}]}]";
 
 void *__real_malloc(size_t), *__real_calloc(size_t, size_t);
 void *__wrap_malloc(size_t), *__wrap_calloc(size_t, size_t);
@@ -40,7 +40,7 @@ static int ask(void) {
     char buffer[64], *given = NULL;
     bcp47_outcome o;
     depth++;
-    o = does_show ? bcp47_show(registry, "yue", 3, &given) : bcp47_canonical(registry, unusual, strlen(unusual), buffer, sizeof buffer);
+    o = does_show ? bcp47_show(registry, "iw", 2, &given) : bcp47_canonical(registry, unusual, strlen(unusual), buffer, sizeof buffer);
     depth--;
     if (!o.status) CHECK(!strcmp(does_show ? given : buffer, does_show ? rows : "en-u-ca-buddhist-nu-latn"));
     bcp47_free(given);
@@ -54,7 +54,7 @@ static void ask_each(void) {
     CHECK(!bcp47_extlang(registry, "yue", 3, buffer, sizeof buffer).status && !strcmp(buffer, "zh-yue"));
     CHECK(!bcp47_explain(registry, "yue", 3, buffer, sizeof buffer).status);
     CHECK(!bcp47_classify(registry, "YUE", 3, buffer, sizeof buffer).status && !strcmp(buffer, "yue"));
-    CHECK(!bcp47_show(registry, "yue", 3, &given).status && !strcmp(given, rows));
+    CHECK(!bcp47_show(registry, "iw", 2, &given).status && !strcmp(given, rows));
     bcp47_free(given);
     CHECK(!bcp47_validate(registry, "yue", 3).status);
     CHECK(!bcp47_equivalent(registry, "zh-yue", 6, "yue", 3, NULL, 0).status);

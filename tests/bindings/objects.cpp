@@ -31,6 +31,8 @@ static_assert(!std::is_convertible_v<bcp47::answer, bcp47::result<bool>> && !std
 template <class Call, class... Words> constexpr bool is_condition = std::is_constructible_v<bool, std::invoke_result_t<Call, Words...>>;
 static_assert(!is_condition<decltype(&bcp47::parent), std::string_view> && is_condition<decltype(&bcp47::classify), std::string_view>, "");
 static_assert(!is_condition<decltype(&bcp47::registry::record), bcp47::registry, std::uint32_t>, "");
+static_assert(!is_condition<decltype(&bcp47::registry::equivalent), bcp47::registry, std::string_view, std::string_view>, "");
+static_assert(!is_condition<decltype(&bcp47::registry::match), bcp47::registry, std::string_view, std::string_view, int>, "");
 template <class Header> using best_of = decltype(std::declval<const bcp47::available>().best(std::declval<Header>()));
 template <class Header> using all_of = decltype(std::declval<const bcp47::available>().filter(std::declval<Header>()));
 static_assert(!std::is_constructible_v<bool, best_of<const char *>> && !std::is_constructible_v<bool, best_of<std::string>>, "");

@@ -160,7 +160,9 @@ int main(int count, char **words) {
                   "SELECT bcp47_explain('en-u-' || group_concat(char(122 - i / 66) || printf('%02d', 65 - i % 66), '-')) FROM n", NULL);
     busy_calls = 2;
     ask(database, "SELECT bcp47_canonical('en')", NULL);
+    CHECK(sqlite3_errcode(database) == SQLITE_NOMEM);
     ask(database, "SELECT bcp47_fault('en')", NULL);
+    CHECK(sqlite3_errcode(database) == SQLITE_NOMEM);
     CHECK(!sqlite3_exec(database, "CREATE TABLE tags (tag TEXT COLLATE BCP47 PRIMARY KEY); INSERT INTO tags VALUES ('en'), ('de')", NULL, NULL, NULL));
     busy_calls = 250;
     ask(database, "INSERT INTO tags VALUES ('fr') RETURNING tag", "fr");

@@ -76,6 +76,20 @@ static void ask_others(void) {
     bcp47_posix("ca_ES.UTF-8@valencia", 20, buffer, room);
 }
 
+static void ask_list(void) {
+    const char *const tags[] = {"zh-yue", text};
+    const size_t lengths[] = {6, strlen(text)};
+    bcp47_available *available;
+    size_t places[2];
+    for (size_t count = 1; count < 3; count++) {
+        bcp47_available_open(&available, registry, tags, lengths, count);
+        bcp47_best(available, text, strlen(text));
+        bcp47_filter(available, text, strlen(text), places, 2);
+        bcp47_filter(available, "yue, *;q=0.5", 12, places, 2);
+        bcp47_available_close(available);
+    }
+}
+
 static void ask_parts(void) {
     static bcp47_part parts[600];
     bcp47_parts(text, strlen(text), buffer, room, parts, sizeof parts / sizeof *parts);
@@ -129,7 +143,7 @@ int main(int count, char **words) {
                    {"registry_info", ask_info}},
       of_text[] = {{"canonical", ask_canonical}, {"extlang", ask_extlang},         {"classify", ask_classify},
                    {"explain", ask_explain},     {"explanation", ask_explanation}, {"others", ask_others},
-                   {"show", ask_show},           {"parts", ask_parts}};
+                   {"show", ask_show},           {"parts", ask_parts},             {"list", ask_list}};
     for (size_t i = 0; i < sizeof of_none / sizeof *of_none; i++) {
         size_t bytes_touched = touched(of_none[i].call);
         if (bytes_touched > most) most = bytes_touched;
