@@ -34,7 +34,7 @@ INSIDE = [
     (r"bcp47-[\d.]+(-sources\.jar|-javadoc\.jar|\.tar\.gz|\.crate)|.*\.pom|INSTALL\.md", []),
 ]
 # What is linked beside the crates that crates.txt names.
-STANDARD = {"program": {"core", "std", "std_alloc", "std_heap", "std_io", "liblibc_c"}, "library": {"core", "std", "std_alloc", "std_heap", "liblibc_c"}}
+STANDARD = {"program": {"core", "std", "std_alloc", "std_heap", "std_io", "liblibc_c", "libos_c"}, "library": {"core", "std", "std_alloc", "std_heap", "liblibc_c"}}
 # What others wrote, by its package of Debian: it is linked as it is there.
 OTHERS = {"glibc": ("libc6-dev", "LGPL-2.1-or-later"), "mingw-w64": ("mingw-w64-x86-64-dev", "ZPL-2.1")}
 # Of the kit's crates those that have a licence of their own; for its standard libraries the kit names none.

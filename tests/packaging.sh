@@ -77,19 +77,23 @@ git ls-files -z | tar --null -T - -cf - | tar -xf - -C "$folder/copy"
 # what is built, but for the Debian of make fresh-debian
 find build -mindepth 1 -maxdepth 1 ! -name debian -exec cp -r {} "$folder/copy/build" \;
 umask 077
-export GNUPGHOME=$folder/gnupg
+export GNUPGHOME=$folder/keys
 mkdir "$GNUPGHOME"
-passes "a key" gpg --batch --quiet --passphrase '' --quick-gen-key release@example
-TZ=Asia/Tokyo LC_ALL=C.UTF-8 SIGNING_KEY=release@example passes "make dist, again" "$folder/copy/packaging/dist.sh" "$folder/again"
+passes "a key" gpg --batch --quiet --passphrase '' --quick-generate-key test@langtag.example
+SIGNING_KEY=test@langtag.example TZ=Asia/Tokyo LC_ALL=C.UTF-8 passes "make dist, again" "$folder/copy/packaging/dist.sh" "$folder/again"
 umask 022
 passes "two runs give the same bytes" diff -r -x SHA256SUMS.asc "$folder/dist" "$folder/again"
-passes "the sums are signed" gpg --batch --verify "$folder/again/SHA256SUMS.asc" "$folder/again/SHA256SUMS"
+passes "the signature" gpg --batch --verify "$folder/again/SHA256SUMS.asc" "$folder/again/SHA256SUMS"
+gpgconf --kill gpg-agent
+is "whether packaging/PUBLISHER is filled in is told" "$(grep -q '\.example' packaging/PUBLISHER; echo $?)" \
+    "$(grep -q 'PUBLISHER is not filled in' <<< "$left_out"; echo $?)"
+# what nothing below uses
+for made in INSTALL.md "bcp47-$version"{.pom,-sources.jar,-javadoc.jar} bcp47-registry-2025.05.15.pom; do
+    passes "a release has $made" test -s "$folder/dist/$made"
+done
 passes "SHA256SUMS" env -C "$folder/dist" sha256sum --check --strict SHA256SUMS
 is "SHA256SUMS names every file" "$(find "$folder/dist" -type f ! -name SHA256SUMS -printf '%f\n' | LC_ALL=C sort)" \
     "$(sed 's/.* //' "$folder/dist/SHA256SUMS" | LC_ALL=C sort)"
-is "what Maven's repositories take" \
-    "bcp47-$version-javadoc.jar bcp47-$version-sources.jar bcp47-$version.jar bcp47-$version.pom bcp47-registry-2025.05.15.jar bcp47-registry-2025.05.15.pom" \
-    "$(cd "$folder/dist" && LC_ALL=C ls -- *.jar *.pom | paste -s -d ' ')"
 mkdir "$folder/unpacked"
 passes "the program's archive" tar -xzf "$folder/dist/langtag-$version-x86_64-linux.tar.gz" -C "$folder/unpacked" --strip-components=1
 passes "the program of the archive runs" "$folder/unpacked/bin/langtag" check "$folder/unpacked/share/langtag/registry.txt"
@@ -141,6 +145,17 @@ for name, found in inside.items():
         assert not found, name
     else:
         assert of_library <= found and "kit:clap" not in found, name
+END
+
+passes "the list of parts has what LICENSE names, with an address for each" /usr/bin/python3 - "$folder/dist" << 'END'
+import json, pathlib, re, sys
+
+(path,) = pathlib.Path(sys.argv[1]).glob("*.cdx.json")
+parts = {part["name"]: part for part in json.loads(path.read_text())["components"] if part["bom-ref"].startswith("kit:")}
+text = pathlib.Path("LICENSE").read_text()
+named = set(re.findall(r"^  (\w+) +(?:MIT|Apache)", text, re.M)) | set(re.findall(r"\b(core|std\w*|lib\w+_c)\b", text))
+assert named == set(parts), named ^ set(parts)
+assert all(part["purl"].startswith("pkg:generic/rattle-kit/") for part in parts.values())
 END
 
 # ---- Packages of Debian
@@ -246,6 +261,9 @@ passes "the crates' tests, of what is packed" env -C "$folder/use/Rust/bcp47-$ve
     --config "patch.crates-io.bcp47-registry.path='../bcp47-registry-2025.5.15'" --all-features
 for made in "$folder"/dist/*.{crate,tgz} "$folder/dist/bcp47-go-$version.tar.gz"; do
     is "$(basename "$made"): no link to a page that is not there" '' "$(tar -xzOf "$made" --wildcards '*.md' | grep -oE "$beside")"
+    case $made in *.crate | *.tgz) passes "$(basename "$made") names its repository" sh -c \
+        'tar -xzOf "$1" --wildcards "*/Cargo.toml" "*/package.json" 2> /dev/null | grep -qE "^ *\"?repository\"? ?[=:]"' - "$made" ;;
+    esac
     is "$(basename "$made") has its licence and a page" 4 "$(tar -tzf "$made" | grep -cE '^[^/]*/(LICENSE(-MIT|-APACHE)?|README.md|RUST.md)$')"
 done
 

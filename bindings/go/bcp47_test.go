@@ -179,6 +179,22 @@ func TestRefusals(t *testing.T) {
 	}
 }
 
+// A refusal of a long text keeps its front in memory, and not the whole.
+func TestLongTextsAreLetGo(t *testing.T) {
+	registry := opened(t)
+	defer registry.Close()
+	var kept [20]error
+	for i := range kept {
+		_, kept[i] = registry.Canonical(strings.Repeat("a", 10_000_000))
+	}
+	runtime.GC()
+	var memory runtime.MemStats
+	runtime.ReadMemStats(&memory)
+	if memory.HeapAlloc > 100_000_000 {
+		t.Error(memory.HeapAlloc, "bytes for refusals such as", kept[0])
+	}
+}
+
 // A caller who asks only for the fault, or only for the cause, gets it of each refusal.
 func TestFaultsAndCausesAreFound(t *testing.T) {
 	registry := opened(t)

@@ -45,6 +45,14 @@ if command -v cargo > /dev/null; then
     cp -rL bindings/rust "$folder/elsewhere"
     passes "Rust: no library anywhere is told" sh -c 'PKG_CONFIG_LIBDIR=/none cargo build --offline --manifest-path "$1/Cargo.toml" -p bcp47-sys 2>&1 |
         grep -q "^warning: .*name its folder by BCP47_LIB_DIR"' - "$folder/elsewhere"
+    # known VERSION: a build by the library that pkg-config knows, of a version
+    known() {
+        sed "s#@LIBDIR@#$root/build#; s/^Version: .*/Version: $1/" bindings/c/bcp47.pc.in > "$folder/bcp47.pc"
+        PKG_CONFIG_LIBDIR=$folder cargo build --offline --manifest-path "$folder/elsewhere/Cargo.toml" -p bcp47 --example canon 2>&1
+    }
+    older() { known 1.0.0 | grep -q "^warning: .*name its folder by BCP47_LIB_DIR"; }
+    passes "Rust: the library that pkg-config knows" known "$(cat VERSION)"
+    passes "Rust: none that is older" older
 else
     echo "no cargo here: the crates for Rust are not tested"
 fi

@@ -23,7 +23,7 @@ fn main() {
         return;
     }
     println!("cargo:rustc-link-lib=dylib=bcp47");
-    let asked = Command::new("pkg-config").args(["--atleast-version=1.1.0", "--variable=libdir", "bcp47"]).output();
+    let asked = Command::new("pkg-config").args(["--variable=libdir", "bcp47 >= 1.1.0"]).output();
     match asked {
         Ok(answer) if answer.status.success() => {
             println!("cargo:rustc-link-search=native={}", String::from_utf8_lossy(&answer.stdout).trim());

@@ -15,8 +15,8 @@ pub enum Refusal {
     /// The tag is not valid, for this fault (RFC 5646, 2.2.9).
     #[error("{0}: mend the subtag at this place, or take a registry by which it is valid")]
     Invalid(ValidFault),
-    /// Steps can repeat a variant, so the tag has no canonical form: once no core step leads on, this variant occurs
-    /// twice.
+    /// Steps can repeat a variant, so the tag has no canonical form. It is this variant that occurs twice where
+    /// no core step leads on.
     #[error("replacements can repeat a variant: take one of the variants out")]
     ReplacementRepeats(Subtag),
     /// Memory ran out.
@@ -75,8 +75,8 @@ pub enum TextRefusal {
     /// The tag is not valid, for this fault (RFC 5646, 2.2.9).
     #[error("{0}: mend the subtag at this place, or take a registry by which it is valid")]
     Invalid(ValidFault),
-    /// Steps can repeat a variant, so the tag has no canonical form: once no core step leads on, this variant occurs
-    /// twice.
+    /// Steps can repeat a variant, so the tag has no canonical form. It is this variant that occurs twice where
+    /// no core step leads on.
     #[error("replacements can repeat a variant: take one of the variants out")]
     ReplacementRepeats(Subtag),
     /// Memory ran out.

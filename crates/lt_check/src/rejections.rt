@@ -16,7 +16,7 @@ pub struct Finding {
     pub number: u32,
 }
 
-/// Why a table is rejected: by a [condition](Condition) of the check, or where memory runs out.
+/// Why a table is rejected: the check is this project's own.
 #[derive(Clone, Copy, Debug, Drop, Error, PartialEq, Eq)]
 pub enum RejectedCause {
     /// A record is at fault.
