@@ -131,8 +131,10 @@ static PyObject *make_words(bcp47_outcome outcome, PyObject *line) {
     return line ? Py_BuildValue("NssKs", line, bcp47_status_name(outcome.status), name_of(outcome), place, help_of(outcome)) : NULL;
 }
 
-/* The same of what has no text: they are made once for each place of each fault, and kept, since a table has many. */
+/* The same of what has no text: they are made once for each place of each fault, and kept, since a table has many. A header may have any
+   number of places, so those of far ones are not kept. */
 static PyObject *kept_words(bcp47_outcome outcome) {
+    if (outcome.place > 99) return make_words(outcome, NULL);
     PyObject *all = given(WORDS), *words = NULL;
     PyObject *key = all ? PyLong_FromUnsignedLongLong((outcome.place * 64 + (size_t)outcome.detail) * 32 + (size_t)outcome.status) : NULL;
     if (key && (words = PyDict_GetItemWithError(all, key))) Py_INCREF(words);

@@ -224,6 +224,11 @@ class Refusals(unittest.TestCase):
         for tag in (bcp47.Tag("xx"), type("Text", (str,), {})("xx")):
             self.assertEqual([(type(it.tag), it.tag) for it in registry.canonical_many([tag])], [(str, "xx")])
 
+    def refused_header(self, place):
+        with self.assertRaises(bcp47.RefusedTag) as raised:
+            registry.available([]).best("de," * (place - 1) + "de;q=2")
+        return raised.exception
+
     def test_they_are_cheap(self):
         """Refusals in a list share what they say, and take no longer than a few answers."""
         def seconds(tags):
@@ -235,6 +240,10 @@ class Refusals(unittest.TestCase):
         self.assertLess(refused, 20 * answered)
         one, other = registry.canonical_many(["en_US", "de_DE"])
         self.assertTrue(all(mine is others for mine, others in zip(one.args[:5], other.args)))
+        # a long header's are not kept for ever
+        one, other = (self.refused_header(150) for _ in range(2))
+        self.assertEqual((one.args, one.place), (other.args, 150))
+        self.assertIsNot(one.args[0], other.args[0])
         # no code of Python makes one
         self.assertEqual((bcp47.RefusedTag.__new__, bcp47.RefusedTag.__init__), (ValueError.__new__, ValueError.__init__))
 
