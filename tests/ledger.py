@@ -3,7 +3,8 @@
 The sum is over the kit's logic, the edit, its function as it stands, and what these name in the crate and those below it: heads of
 functions with their clauses, types with what their traits promise, constants, traits, definitions of specs/; and what each of those
 names in turn. An edit outside of all bodies depends on the whole source of its crate. Comments, layout, imports, other bodies, lemmas
-and proof files are left out: by none of them can a body be proved that breaks its contract. Of a name all meanings count.
+and proof files are left out: by none of them can a body be proved that breaks its contract. Only the doc comments of a type with
+`derive(Error)` count, since the macro takes them as tokens. Of a name all meanings count.
 """
 
 import collections
