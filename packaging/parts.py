@@ -89,14 +89,22 @@ def other_component(name):
             "purl": f"pkg:deb/debian/{package}@{version}"}
 
 
-def file_component(path):
+def needed(name, kits):
+    """What a file depends on: crates of the kit, the registry, and what others wrote."""
+    inside = inside_of(name)
+    return sorted({f"kit:{crate}" for part in inside for crate in kits.get(part, [])} | {"registry", *OTHERS} & set(inside))
+
+
+def file_component(path, kits):
     digest = hashlib.sha256(path.read_bytes()).hexdigest()
+    found = {LICENCES.get(it.removeprefix("kit:"), OTHERS.get(it, ("", OURS))[1]) for it in needed(path.name, kits)} - {OURS}
+    all_of = [f"({it})" if " OR " in it else it for it in (OURS, *sorted(found))] if found else [OURS]
     return {
         "type": "file",
         "bom-ref": f"file:{path.name}",
         "name": path.name,
         "hashes": [{"alg": "SHA-256", "content": digest}],
-        "licenses": licence(OURS),
+        "licenses": licence(" AND ".join(all_of)),
     }
 
 
@@ -108,14 +116,11 @@ def main(folder):
     kits = {"program": kit_below("langtag", found) | STANDARD["program"], "library": kit_below("bcp47_c", found) | STANDARD["library"]}
     day = re.match(r"File-Date: (\S+)", (ROOT / "examples/iana-2025-05-15.txt").read_text(encoding="utf-8"))[1]
     registry = {"type": "data", "bom-ref": "registry", "name": "IANA Language Subtag Registry", "version": day}
-    files = [file_component(path) for path in sorted(folder.iterdir())]
+    files = [file_component(path, kits) for path in sorted(folder.iterdir())]
     serial = uuid.uuid5(uuid.NAMESPACE_URL, "".join(file["hashes"][0]["content"] for file in files))
     time = datetime.fromtimestamp(int(os.environ["SOURCE_DATE_EPOCH"]), timezone.utc)
     dependencies = [{"ref": "langtag", "dependsOn": [file["bom-ref"] for file in files]}]
-    for file in files:
-        inside = inside_of(file["name"])
-        of = sorted({f"kit:{name}" for part in inside for name in kits.get(part, [])} | {"registry", *OTHERS} & set(inside))
-        dependencies.append({"ref": file["bom-ref"], "dependsOn": of})
+    dependencies += [{"ref": file["bom-ref"], "dependsOn": needed(file["name"], kits)} for file in files]
     print(json.dumps({
         "bomFormat": "CycloneDX",
         "specVersion": "1.5",

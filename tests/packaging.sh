@@ -145,6 +145,9 @@ for name, found in inside.items():
         assert not found, name
     else:
         assert of_library <= found and "kit:clap" not in found, name
+licences = {part["name"]: part["licenses"][0]["expression"] for part in parts["components"] if part["type"] == "file"}
+for name, found in inside.items():
+    assert ("Unlicense" in licences[name], "LGPL" in licences[name]) == ("kit:memchr" in found, "glibc" in found), name
 END
 
 passes "the list of parts has what LICENSE names, with an address for each" /usr/bin/python3 - "$folder/dist" << 'END'
