@@ -21,8 +21,8 @@ pub use lt_check::{Condition, Finding};
 pub use lt_jar::{Device, Jar, JarFault, JarFaultKind, JarField, Record, read_jar};
 pub use lt_range::{
     AcceptFault, AcceptFaultKind, AcceptLanguage, Available, AvailableRefusal, HeaderRefusal,
-    LanguageRange, Preference, RangeFault, RangeRefusal, TagSubtags, WeightedRange, best,
-    filter_accepted, filter_basic, filter_extended, lookup, weight_of,
+    LanguageRange, Preference, RangeFault, RangeRefusal, Scheme, TagSubtags, WeightedRange,
+    any_matches, best, filter_accepted, filter_basic, filter_extended, lookup, weight_of,
 };
 pub use lt_registry::{
     Entry, EntryName, EntryValue, Kind, Prefix, RecordFault, RecordFaultKind, ValidFault,

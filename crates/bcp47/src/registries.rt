@@ -15,14 +15,16 @@ ghost use Rattle.lt_canon.specs.Texts.{AppendsCanonicalText, IsCanonicalTextOf, 
 ghost use Rattle.lt_canon.specs.Traces.{IsTraceFault, IsValidTrace, no_trace_memory};
 ghost use Rattle.lt_range.specs.Asked.{Asks, IsHeaderRefusal};
 ghost use Rattle.lt_range.specs.Available.{AreAvailable, IsAvailableRefusal};
-ghost use Rattle.lt_range.specs.Matched.{HasExtlangList, HasSubtags, IsExtlangRange};
+ghost use Rattle.lt_range.specs.Matched.{AreRangesOf, HasSubtags};
 ghost use Rattle.lt_range.specs.Refusals.{IsRangeRefusal};
+ghost use Rattle.lt_range.specs.Spellings.{HasSpellings};
 ghost use Rattle.lt_show.specs.Json.{rows_value};
 ghost use Rattle.lt_show.specs.Rows.{rows_of};
 ghost use Rattle.lt_upgrade.specs.Laws.{UpgradeKeepsTags};
 ghost use Rattle.lt_upgrade.specs.Upgrade.{Upgrades};
 ghost use Rattle.lt_upgrade.specs.UpgradeChecking.{IsUpgradeFault};
 ghost use Rattle.bcp47.specs.Errors.{registry_shown};
+ghost use Rattle.bcp47.specs.declared.errors.RegistryError.TheVariants as errors;
 ghost use Rattle.bcp47.specs.Promise.{IsJudged, ReadsBytes, ReadsDevice, Promise};
 
 use crate::errors::RegistryError;
@@ -32,7 +34,8 @@ use lt_canon::{Refusal, TextRefusal, Trace, TraceFault};
 use lt_check::{Checked, RejectedCause};
 use lt_jar::{Device, Record};
 use lt_range::{
-    Available, AvailableRefusal, HeaderRefusal, LanguageRange, Preference, RangeRefusal, TagSubtags,
+    Available, AvailableRefusal, HeaderRefusal, LanguageRange, MatchingTable, Preference, RangeRefusal,
+    TagSubtags,
 };
 use lt_registry::{Entry, Kind, Lookup, Registry as Entries, SortedTable, ValidRefusal};
 use lt_show::Row;
@@ -47,15 +50,15 @@ use std::marker::Model;
 /// A registry of language subtags in the format of IANA's (RFC 5646, 3.1), which passes the check: each record
 /// meets each [`Condition`](crate::Condition). No call changes it. A contract sees the list of its entries.
 pub struct Registry {
-    checked: Checked<SortedTable>,
+    table: MatchingTable<SortedTable>,
 }
 
 // Written by hand, so that the proof of a function that drops a registry goes through this one call, and not through the drop of
 // each of its vectors.
 impl Drop for Registry {
     fn drop(self) {
-        let Registry { checked } = self;
-        drop(checked);
+        let Registry { table } = self;
+        drop(table);
     }
 }
 
@@ -66,9 +69,9 @@ impl Model for Registry {
 
     ghost Value = { List EntryParts };
 
-    ghost view = { λ r. r.checked };
+    ghost view = { λ r. r.table };
 
-    ghost invariant = { λ r. IsChecked r.checked };
+    ghost invariant = { λ r. IsChecked r.table };
 }
 
 impl fmt::Debug for Registry {
@@ -90,6 +93,19 @@ fn sorted(alloc: Global, entries: Entries) -> Option<SortedTable>
     SortedTable::new(alloc, entries).ok()
 }
 
+/// The registry of a table, prepared for matching. It is refused only where memory runs out.
+fn prepared(alloc: Global, checked: Checked<SortedTable>) -> Result<Registry, RegistryError>
+    ensures value { IfOk result (λ registry. registry ≡ checked) }
+    ensures refusal { IfErr result (λ error. error ≡ errors.OutOfMemory) }
+{
+    // Does nothing but tell the proof that the table passes the check.
+    let _ = checked.table();
+    match MatchingTable::new(alloc, checked) {
+        Ok(table) => Ok(Registry { table }),
+        Err(_) => Err(RegistryError::OutOfMemory),
+    }
+}
+
 /// The registry of these entries, or why the check rejects them, which may be that memory ran out. It is not inlined into its
 /// callers, so that what reads a registry needs no stack for what checks it.
 #[inline(never)]
@@ -100,7 +116,7 @@ fn check_entries(alloc: Global, entries: Entries) -> Result<Registry, RegistryEr
         return Err(RegistryError::OutOfMemory);
     };
     match Checked::new(alloc, table) {
-        Ok(checked) => Ok(Registry { checked }),
+        Ok(checked) => prepared(alloc, checked),
         Err(rejected) => Err(match rejected.cause {
             RejectedCause::Finding(finding) => RegistryError::Check(finding),
             RejectedCause::OutOfMemory => RegistryError::OutOfMemory,
@@ -150,7 +166,7 @@ impl Registry {
     pub fn promise(&self)
         ensures { Promise self.now }
     {
-        know_promise(&self.checked);
+        know_promise(self.table.checked());
     }
 
     /// The entries in the order of the file, one for each record but the header.
@@ -158,7 +174,7 @@ impl Registry {
         ensures value { result.now ≡ self.now }
         ensures checked { IsChecked self.now }
     {
-        self.checked.table().entries()
+        self.table.checked().table().entries()
     }
 
     /// The entry of a subtag under a kind (RFC 5646, 3.1.4): the first record of the kind that names this subtag and no
@@ -167,7 +183,7 @@ impl Registry {
     pub fn entry(&self, kind: Kind, subtag: &Subtag) -> Option<&Entry>
         ensures { option_copied result ≡ listed.entry self.now kind subtag.now }
     {
-        self.checked.table().entry(kind, subtag)
+        self.table.checked().table().entry(kind, subtag)
     }
 
     /// The entry of a whole tag (RFC 5646, 2.2.8): the first grandfathered or redundant record of that tag, or None if it
@@ -175,7 +191,7 @@ impl Registry {
     pub fn whole(&self, tag: &Tag) -> Option<&Entry>
         ensures { option_copied result ≡ listed.whole self.now tag.now }
     {
-        self.checked.table().whole(tag)
+        self.table.checked().table().whole(tag)
     }
 
     /// Whether a tag is valid (RFC 5646, 2.2.9): Ok if it is, else the fault of the least place and, there, of the first
@@ -187,7 +203,7 @@ impl Registry {
         ensures ok { OnOk result (validity.HasNoFault self.now tag.now) }
         ensures err { IfErr result (validity.IsRefusal self.now tag.now) }
     {
-        lt_registry::validate(alloc, self.checked.table(), tag)
+        lt_registry::validate(alloc, self.table.checked().table(), tag)
     }
 
     /// The canonical form of a tag (RFC 5646, 4.5): the one canonical tag that steps reach from it. `zh-yue`
@@ -203,7 +219,7 @@ impl Registry {
         ensures invalid { IfErr result (λ refusal. NamesFault self.now tag.now refusal) }
         ensures named { IfErr result (λ refusal. NamesRepeat self.now tag.now refusal) }
     {
-        lt_canon::canonical(alloc, &self.checked, tag)
+        lt_canon::canonical(alloc, self.table.checked(), tag)
     }
 
     /// The text, in conventional case (RFC 5646, 2.1.1), of the canonical form of the tag that a text is read
@@ -217,7 +233,7 @@ impl Registry {
         ensures repeats { IfErr result (λ refusal. RefusesTextOnlyRepeats self.now text.now refusal) }
         ensures refusal { IfErr result (λ refusal. IsTextRefusal self.now text.now refusal) }
     {
-        lt_canon::canonical_text(alloc, &self.checked, text)
+        lt_canon::canonical_text(alloc, self.table.checked(), text)
     }
 
     /// Appends what `canonical_text` answers to other texts, with nothing between. It is refused as
@@ -232,7 +248,7 @@ impl Registry {
         ensures refusal { IfErr result (λ refusal. IsTextRefusal self.now text.now refusal) }
         ensures kept { OnErr result (texts.new.items ≡ texts.old.items) }
     {
-        lt_cache::append_canonical_text(alloc, &self.checked, text, texts)
+        lt_cache::append_canonical_text(alloc, self.table.checked(), text, texts)
     }
 
     /// The extlang form of a tag (RFC 5646, 4.5): its canonical form; and if the language of the canonical form is
@@ -242,7 +258,7 @@ impl Registry {
         ensures form { IfOk result (λ form. IsExtlangFormOf self.now tag.now form) }
         ensures refusal { IfErr result (λ refusal. IsRefusedWith self.now tag.now refusal) }
     {
-        lt_canon::extlang_form(alloc, &self.checked, tag)
+        lt_canon::extlang_form(alloc, self.table.checked(), tag)
     }
 
     /// Whether two tags are equivalent: whether steps, forth and back, lead from one to the other. They do exactly if their
@@ -252,7 +268,7 @@ impl Registry {
         ensures answer { IfOk result (λ answer. IsEquivalenceAnswer self.now first.now second.now answer) }
         ensures refusal { IfErr result (λ refusal. IsFirstRefusal self.now first.now second.now refusal) }
     {
-        lt_canon::equivalent(alloc, &self.checked, first, second)
+        lt_canon::equivalent(alloc, self.table.checked(), first, second)
     }
 
     /// The steps that lead from a tag to its canonical form (RFC 5646, 4.5), each the first that leads on, and
@@ -262,7 +278,7 @@ impl Registry {
         ensures ok { IfOk result (λ trace. IsExplanation self.now tag.now trace.steps.items trace.last) }
         ensures err { IfErr result (λ refusal. IsRefusedWith self.now tag.now refusal) }
     {
-        lt_canon::explain(alloc, &self.checked, tag)
+        lt_canon::explain(alloc, self.table.checked(), tag)
     }
 
     /// The text of the explanation of the tag that a text is read as: a line for each step that `explain`
@@ -277,7 +293,7 @@ impl Registry {
         ensures written { IfOk result (λ lines. IsExplanationTextOf self.now text.now lines.items) }
         ensures refusal { IfErr result (λ refusal. IsTextRefusal self.now text.now refusal) }
     {
-        lt_canon::explanation_text(alloc, &self.checked, text)
+        lt_canon::explanation_text(alloc, self.table.checked(), text)
     }
 
     /// Whether the steps of a trace lead from a valid tag, one after another, to its last tag, which is then
@@ -295,33 +311,37 @@ impl Registry {
         ensures exact { IfErr result (λ fault. fault ≢ no_trace_memory
             → IsValidTrace self.now tag.now trace.now.steps.items trace.now.last → ⊥) }
     {
-        lt_canon::verify(alloc, &self.checked, tag, trace)
+        lt_canon::verify(alloc, self.table.checked(), tag, trace)
     }
 
-    /// The language range by which a text matches (RFC 4647, 2). If the text is a valid tag, it is the range of the
-    /// subtags of its extlang form (RFC 5646, 4.5). Any other text is read as a range, and its first subtag is replaced
-    /// by its extlang form if it is a valid tag by itself. So `iw` finds what `he` finds, `yue-*` finds `zh-yue-HK`,
-    /// and `zh-*` stays. [`LanguageRange`](crate::LanguageRange) has the three ways of matching, and a list of ranges
-    /// in order of priority is what [`filter_basic`](crate::filter_basic), [`filter_extended`](crate::filter_extended)
-    /// and [`lookup`](crate::lookup) ask for.
+    /// The language ranges by which a text matches (RFC 4647, 2). If the text is a valid tag, they are those of its
+    /// spellings: its extlang form (RFC 5646, 4.5), and the whole tags of records that have the same canonical form. Any
+    /// other text is read as a range, and its first subtag is replaced by its extlang form if it is a valid tag by
+    /// itself. So `iw` finds what `he` finds, `nb` gives `nb` and `no-bok`, `yue-*` finds `zh-yue-HK`, and `zh-*` stays.
+    /// [`any_matches`](crate::any_matches) asks whether one of them matches a tag, and a list of ranges in order of
+    /// priority is what [`filter_basic`](crate::filter_basic), [`filter_extended`](crate::filter_extended) and
+    /// [`lookup`](crate::lookup) ask for.
     ///
     /// - `NotARange`, with the fault that `LanguageRange::read` answers, exactly where the text is neither.
     /// - `ReplacementRepeats` where the text is a valid tag that `canonical` refuses so.
     /// - `OutOfMemory` where memory runs out.
-    pub fn range(&self, alloc: Global, text: &[u8]) -> Result<LanguageRange, RangeRefusal>
-        ensures range { IfOk result (λ range. IsExtlangRange self.now text.now range) }
+    pub fn ranges(&self, alloc: Global, text: &[u8]) -> Result<Vec<LanguageRange>, RangeRefusal>
+        ensures ranges { IfOk result (λ ranges. AreRangesOf self.now text.now ranges.items) }
         ensures refusal { IfErr result (λ refusal. IsRangeRefusal self.now text.now refusal) }
     {
-        lt_range::extlang_range(alloc, &self.checked, text)
+        let mut ranges = Vec::new(alloc);
+        lt_range::append_ranges(alloc, &self.table, text, &mut ranges)?;
+        Ok(ranges)
     }
 
-    /// The subtags by which ranges match a tag: those of its extlang form (RFC 5646, 4.5), for example `zh`, `yue` and `HK`
-    /// for `yue-HK`. So equivalent tags match the same ranges, and `zh` finds `yue`. It is refused as `canonical` refuses.
+    /// The subtags by which ranges match a tag, in each of its spellings: those of its extlang form (RFC 5646, 4.5), for
+    /// example `zh`, `yue` and `HK` for `yue-HK`, and those of the whole tags of records that have the same canonical form.
+    /// So equivalent tags match the same ranges, `zh` finds `yue`, and `no` finds `nb`. It is refused as `canonical` refuses.
     pub fn subtags(&self, alloc: Global, tag: &Tag) -> Result<TagSubtags, Refusal>
-        ensures subtags { IfOk result (λ subtags. HasExtlangList self.now tag.now subtags) }
+        ensures subtags { IfOk result (λ subtags. HasSpellings self.now tag.now subtags) }
         ensures refusal { IfErr result (λ refusal. IsRefusedWith self.now tag.now refusal) }
     {
-        lt_range::extlang_subtags(alloc, &self.checked, tag)
+        lt_range::tag_spellings(alloc, &self.table, tag)
     }
 
     /// The [`subtags`](Registry::subtags) of the tag that a text is read as. It is refused as `canonical_text` refuses.
@@ -329,15 +349,15 @@ impl Registry {
         ensures subtags { IfOk result (λ subtags. HasSubtags self.now text.now subtags) }
         ensures refusal { IfErr result (λ refusal. IsTextRefusal self.now text.now refusal) }
     {
-        lt_range::subtags_of_text(alloc, &self.checked, text)
+        lt_range::subtags_of_text(alloc, &self.table, text)
     }
 
-    /// What an Accept-Language header asks for (RFC 9110, 12.5.4): each of its ranges, as [`range`](Registry::range) gives
-    /// it, with its weight. Those that are acceptable come first, from the greatest weight to the least, and then the
+    /// What an Accept-Language header asks for (RFC 9110, 12.5.4): for each of its ranges those that [`ranges`](Registry::ranges)
+    /// gives, with its weight. Those that are acceptable come first, from the greatest weight to the least, and then the
     /// others, in the order of the header. `da, en-gb;q=0.8` gives `da` with 1,000 thousandths and `en-gb` with 800.
     ///
     /// - `NotAHeader`, with the fault that `AcceptLanguage::read` answers, exactly where the text is no header.
-    /// - `BadRange`, with the refusal of `range`, where that refuses one of the ranges.
+    /// - `BadRange`, with the refusal of `ranges`, where that refuses one of the ranges.
     /// - `OutOfMemory` where memory runs out.
     pub fn preferences(
         &self,
@@ -347,17 +367,17 @@ impl Registry {
         ensures preferences { IfOk result (λ all. Asks self.now header.now all.items) }
         ensures refusal { IfErr result (λ refusal. IsHeaderRefusal self.now header.now refusal) }
     {
-        lt_range::header_preferences(alloc, &self.checked, header)
+        lt_range::header_preferences(alloc, &self.table, header)
     }
 
     /// The tags that texts are read as, in their order, prepared for [`Available::best`](crate::Available::best): a
     /// service has one such list, and asks it once for each request. It is refused at the first text that
     /// `subtags_of_text` refuses, with that refusal and the number of the text, counted from 1.
     pub fn available(&self, alloc: Global, texts: &[&[u8]]) -> Result<Available, AvailableRefusal>
-        ensures available { IfOk result (λ lists. AreAvailable self.now (map (λ text. text.now) texts.now) (length texts.now) lists) }
+        ensures available { IfOk result (λ available. AreAvailable self.now (map (λ text. text.now) texts.now) (length texts.now) available) }
         ensures refusal { IfErr result (IsAvailableRefusal self.now (map (λ text. text.now) texts.now)) }
     {
-        Available::of_texts(alloc, &self.checked, texts)
+        Available::of_texts(alloc, &self.table, texts)
     }
 
     /// What the registry has for the parts of a tag, in order: of each its place, what it is, where it is in the text that
@@ -367,7 +387,7 @@ impl Registry {
     pub fn rows(&self, alloc: Global, tag: &Tag) -> Result<Vec<Row>, OutOfMemory>
         ensures { IfOk result (λ rows. rows.items ≡ rows_of self.now tag.now) }
     {
-        lt_show::rows_of(alloc, self.checked.table(), tag)
+        lt_show::rows_of(alloc, self.table.checked().table(), tag)
     }
 
     /// Appends the [`rows`](Registry::rows) of a tag to other texts, as an array of JSON (RFC 8259). Each row is an object
@@ -384,7 +404,7 @@ impl Registry {
     ) -> Result<(), OutOfMemory>
         ensures { OnOk result (texts.new.items ≡ texts.old.items ++ rows_value self.now records.now tag.now) }
     {
-        lt_show::append_rows(texts, alloc, self.checked.table(), records, tag)
+        lt_show::append_rows(texts, alloc, self.table.checked().table(), records, tag)
     }
 
     /// Whether a newer registry upgrades this one: whether it meets each
@@ -396,6 +416,6 @@ impl Registry {
         ensures keeps { OnOk result (UpgradeKeepsTags self.now newer.now) }
         ensures fault { IfErr result (IsUpgradeFault self.now newer.now) }
     {
-        lt_upgrade::upgrade_check(alloc, &self.checked, &newer.checked)
+        lt_upgrade::upgrade_check(alloc, self.table.checked(), newer.table.checked())
     }
 }

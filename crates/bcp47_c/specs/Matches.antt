@@ -5,15 +5,15 @@ use Rattle.lt_tag.specs.Parts.{TagForm}
 use Rattle.lt_registry.specs.Parts.{EntryParts}
 use Rattle.lt_canon.specs.Texts.{IsTextRefusal}
 use Rattle.lt_range.specs.Ranges.{RangeParts}
-use Rattle.lt_range.specs.Matched.{BasicFiltering, ExtendedFiltering, HasExtlangList, IsExtlangRange, Lookup}
-use Rattle.lt_range.specs.Matched.{MatchesTag, MatchingScheme}
+use Rattle.lt_range.specs.Matched.{AreRangesOf, MatchesTag}
+use Rattle.lt_range.specs.Spellings.{HasSpellings, Spellings}
 use Rattle.lt_range.specs.Refusals.{IsRangeRefusal}
+use Rattle.lt_range.specs.declared.matching.Scheme.{Scheme}
+use Rattle.lt_range.specs.declared.matching.Scheme.TheVariants as schemes
 use Rattle.lt_range.specs.declared.refusals.RangeRefusal.{RangeRefusal}
 use Rattle.lt_range.specs.declared.refusals.RangeRefusal.TheVariants as refusals
 use Rattle.bcp47_c.specs.Numbers.{range_fault}
 use Rattle.bcp47_c.specs.Outcomes.{ended, of_text, IsDelivered, IsRefusedAsOwed}
-use Rattle.bcp47_c.specs.declared.matching.Scheme.{Scheme}
-use Rattle.bcp47_c.specs.declared.matching.Scheme.TheVariants as schemes
 use Rattle.bcp47_c.specs.declared.outcomes.Outcome.{Outcome}
 use Rattle.bcp47_c.specs.declared.outcomes.Said.{Said}
 
@@ -30,24 +30,18 @@ abbrev pub IsSchemeOf : ℕ → Option Scheme → Type 0
 IsSchemeOf n (Some scheme) = n ≡ scheme_number scheme
 IsSchemeOf n None = (scheme : Scheme) → n ≢ scheme_number scheme
 
--- the scheme of matching as the contracts have it (RFC 4647, 3.3.1, 3.3.2 and 3.4)
-abbrev pub matching : Scheme → MatchingScheme
-matching schemes.Basic = BasicFiltering
-matching schemes.Extended = ExtendedFiltering
-matching schemes.Lookup = Lookup
-
 -- ---- what is answered
 
--- The range and the tag of `text` both have an extlang form, and `answer` is whether they match (RFC 5646, 4.5; RFC
--- 4647, 3).
+-- The range and the tag of `text` both have spellings, and `answer` is whether they match in one of each (RFC 5646,
+-- 4.5; RFC 4647, 3).
 pub record IsMatchOf (R : List EntryParts) (scheme : Scheme) (range text : List ℕ) (answer : Bool) : Type 0 where
-  pub parts : RangeParts
-  pub is_range : IsExtlangRange R range parts
+  pub ranges : List RangeParts
+  pub are_ranges : AreRangesOf R range ranges
   pub tag : TagForm
   pub read : HasTag text tag
-  pub list : List (List ℕ)
-  pub extlang : HasExtlangList R tag list
-  pub matches : IsTrue answer ↔ MatchesTag R (matching scheme) range tag
+  pub lists : Spellings
+  pub has : HasSpellings R tag lists
+  pub matches : IsTrue answer ↔ MatchesTag R scheme range tag
 
 -- the status says whether the range matches the tag of `text`: Done (0) if so, Different (6) if not; the buffer was
 -- `before` and is `after`
@@ -83,8 +77,8 @@ pub record IsRangeRefused (R : List EntryParts) (range before after : List ℕ) 
 -- The range is not refused, but the tag of `text` is: the reason is answered, with the number of its text, 2. `alone`
 -- is the outcome without that number; the buffer was `before` and is `after`.
 pub record IsTagRefused (R : List EntryParts) (range text before after : List ℕ) (o : Outcome) : Type 0 where
-  pub parts : RangeParts
-  pub is_range : IsExtlangRange R range parts
+  pub ranges : List RangeParts
+  pub are_ranges : AreRangesOf R range ranges
   pub alone : Outcome
   pub refused : IsRefusedAsOwed (IsTextRefusal R text) before after alone
   pub told : o ≡ of_text 2 alone

@@ -5,6 +5,7 @@ use Rattle.lt_registry.specs.Parts.{EntryParts}
 use Rattle.lt_canon.specs.Texts.{ReadsAs}
 use Rattle.lt_show.specs.Fields.{fields_of}
 use Rattle.lt_show.specs.Json.{rows_value}
+use Rattle.lt_range.specs.Spellings.{Spellings}
 use Rattle.bcp47_c.specs.Outcomes.{AreDelivered, ended, IsDelivered}
 use Rattle.bcp47_c.specs.declared.outcomes.Outcome.{Outcome}
 use Rattle.bcp47_c.specs.declared.records.FieldLengths.{FieldLengths}
@@ -14,7 +15,7 @@ use Rattle.bcp47_c.specs.declared.records.FieldLengths.{FieldLengths}
 pub record Kept : Type 0 where
   pub entries : List EntryParts
   pub records : List (List Field)
-  pub lists : List (List (List ℕ))
+  pub lists : List Spellings
 
 -- a registry with which nothing is kept
 abbrev pub alone : List EntryParts → Kept
@@ -25,7 +26,7 @@ abbrev pub with_records : Kept → List (List Field) → Kept
 with_records registry records = record { entries = registry.entries; records = records; lists = registry.lists }
 
 -- what is kept, with these lists in place of those that were kept
-abbrev pub with_lists : Kept → List (List (List ℕ)) → Kept
+abbrev pub with_lists : Kept → List Spellings → Kept
 with_lists registry lists = record { entries = registry.entries; records = registry.records; lists = lists }
 
 -- the text is read as a tag, and `rows` are that tag's rows by these entries and records, as a JSON array

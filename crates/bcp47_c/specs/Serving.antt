@@ -1,6 +1,6 @@
 -- The list of tags that a handle keeps: which tag of it is served for an Accept-Language header, and which tags the
 -- header accepts (RFC 9110, 12.5.4). And what `bcp47_handle_list`, `bcp47_handle_best` and `bcp47_handle_filter`
--- answer. A tag's list is the subtags of its extlang form.
+-- answer. A tag's listss are the subtags of its spellings.
 use Rattle.std.specs.Prelude.{ℕ, ◌≡◌, ◌⊎◌, List, [], ◌∷◌, Option, Some, None, drop, length, min, take}
 use Rattle.lt_registry.specs.Parts.{EntryParts}
 use Rattle.lt_range.specs.Asked.{Asks, IsHeaderRefusal}
@@ -10,6 +10,7 @@ use Rattle.lt_range.specs.declared.asked.HeaderRefusal.{HeaderRefusal}
 use Rattle.lt_range.specs.declared.asked.HeaderRefusal.TheVariants as refusals
 use Rattle.lt_range.specs.declared.available.AvailableRefusal.{AvailableRefusal}
 use Rattle.lt_range.specs.declared.preferences.Preference.{Preference}
+use Rattle.lt_range.specs.Spellings.{Spellings}
 use Rattle.bcp47_c.specs.Handles.{Held}
 use Rattle.bcp47_c.specs.Matches.{range_said}
 use Rattle.bcp47_c.specs.Numbers.{accept_fault}
@@ -34,7 +35,7 @@ tag_refused refused = of_text (min refused.place 2147483647) (outcome (refusal_s
 -- the handle holds the same registry and records, with the lists of the tags that the texts are, and the status is Done
 -- (0)
 pub record AreListed (registry : Kept) (texts : List (List ℕ)) (held : Held) (o : Outcome) : Type 0 where
-  pub lists : List (List (List ℕ))
+  pub lists : List Spellings
   pub available : AreAvailable registry.entries texts (length texts) lists
   pub holds : held ≡ Some (with_lists registry lists)
   pub told : o ≡ outcome (ended 0) 0
@@ -66,7 +67,7 @@ served_said None = ended 0
 served_said (Some place) = record { status = 0; detail = 1; place = place }
 
 -- the tag to serve is answered, or that there is none
-pub record IsServed (R : List EntryParts) (lists : List (List (List ℕ))) (header : List ℕ) (o : Outcome)
+pub record IsServed (R : List EntryParts) (lists : List Spellings) (header : List ℕ) (o : Outcome)
     : Type 0 where
   pub preferences : List Preference
   pub asked : Asks R header preferences
@@ -76,7 +77,7 @@ pub record IsServed (R : List EntryParts) (lists : List (List (List ℕ))) (head
 
 -- the places, counted from 0, of the tags that the header accepts are answered; the room for them was `room` and is
 -- `filled`
-pub record AreServed (R : List EntryParts) (lists : List (List (List ℕ))) (header room filled : List ℕ) (o : Outcome)
+pub record AreServed (R : List EntryParts) (lists : List Spellings) (header room filled : List ℕ) (o : Outcome)
     : Type 0 where
   pub preferences : List Preference
   pub asked : Asks R header preferences
@@ -91,12 +92,12 @@ pub record IsHeaderRefused (R : List EntryParts) (header : List ℕ) (o : Outcom
   pub told : o ≡ outcome (header_said refusal) 0
 
 -- which of the tags with these lists is served for the header is answered, or why the header is refused
-abbrev pub Serves : List EntryParts → List (List (List ℕ)) → List ℕ → Outcome → Type 0
+abbrev pub Serves : List EntryParts → List Spellings → List ℕ → Outcome → Type 0
 Serves R lists header o = IsServed R lists header o ⊎ IsHeaderRefused R header o
 
 -- The places of those tags that the header accepts, among the tags with these lists, are answered; or why the header is
 -- refused. The room for the places was `room` and is `filled`, which is the same if the header is refused.
-abbrev pub Accepts : List EntryParts → List (List (List ℕ)) → List ℕ → List ℕ → List ℕ → Outcome → Type 0
+abbrev pub Accepts : List EntryParts → List Spellings → List ℕ → List ℕ → List ℕ → Outcome → Type 0
 Accepts R lists header room filled o =
     AreServed R lists header room filled o
     ⊎ (IsHeaderRefused R header o × (filled ≡ room))

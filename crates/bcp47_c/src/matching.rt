@@ -1,22 +1,13 @@
 //! Whether a language range matches a tag, both by their texts.
-ghost use Rattle.std.specs.Prelude.{◌≡◌, ◌↔◌, IsTrue};
-ghost use Rattle.lt_range.specs.Matched.{MatchesBy};
+ghost use Rattle.std.specs.Prelude.{◌≡◌};
 ghost use Rattle.bcp47_c.specs.Matches as spec;
-ghost use Rattle.bcp47_c.specs.Matches.{IsSchemeOf, TellsMatch, matching};
+ghost use Rattle.bcp47_c.specs.Matches.{IsSchemeOf, TellsMatch};
 ghost use Rattle.bcp47_c.specs.Outcomes.{IsDelivered};
 
 use crate::numbers::{DIFFERENT, DONE, NOT_A_TAG, OUT_OF_MEMORY, REPLACEMENT_REPEATS, range_fault};
 use crate::outcomes::{Outcome, Said, deliver, ended, of_text, refuse};
-use bcp47::{LanguageRange, RangeRefusal, Registry, TagSubtags};
+use bcp47::{RangeRefusal, Registry, Scheme, any_matches};
 use std::alloc::Global;
-
-/// The schemes of matching (RFC 4647, 3.3.1, 3.3.2 and 3.4).
-#[derive(Clone, Copy)]
-pub(crate) enum Scheme {
-    Basic,
-    Extended,
-    Lookup,
-}
 
 /// The scheme that has a number in C, or None if none has it.
 pub(crate) fn scheme_of(number: u32) -> Option<Scheme>
@@ -28,18 +19,6 @@ pub(crate) fn scheme_of(number: u32) -> Option<Scheme>
         3 => Scheme::Lookup,
         _ => return None,
     })
-}
-
-/// Whether a range matches a tag by a scheme, both given by their subtags. By lookup (RFC 4647, 3.4) it does if the tag
-/// is the range, or what is left of the range after subtags are cut from its end.
-fn is_matched(scheme: Scheme, range: &LanguageRange, tag: &TagSubtags) -> bool
-    ensures { IsTrue result ↔ MatchesBy (matching scheme) range.now tag.now }
-{
-    match scheme {
-        Scheme::Basic => range.matches_basic(tag),
-        Scheme::Extended => range.matches_extended(tag),
-        Scheme::Lookup => range.falls_back_to(tag),
-    }
 }
 
 /// What an outcome says of a range that is refused: the status, and the number of the fault for a text that is no
@@ -90,7 +69,7 @@ pub(crate) fn answer_match(
 {
     // Only for the proof: what holds of every registry.
     registry.promise();
-    let known = match registry.range(alloc, range) {
+    let known = match registry.ranges(alloc, range) {
         Ok(known) => known,
         Err(refusal) => return of_text(1, refuse_range(&refusal, buffer)),
     };
@@ -98,7 +77,7 @@ pub(crate) fn answer_match(
         Ok(subtags) => subtags,
         Err(refusal) => return of_text(2, refuse(&refusal, buffer)),
     };
-    if is_matched(scheme, &known, &subtags) {
+    if any_matches(scheme, &known, &subtags) {
         deliver(ended(DONE), &[], buffer)
     } else {
         deliver(ended(DIFFERENT), &[], buffer)

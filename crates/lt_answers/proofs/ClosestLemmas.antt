@@ -12,6 +12,7 @@ use Rattle.lt_registry.specs.Parts.{EntryParts}
 use Rattle.lt_range.specs.Ranges.{RangeParts}
 use Rattle.lt_range.specs.Matching.{FallsBackTo}
 use Rattle.lt_range.specs.Lookup.{Finds, FindsNone, tag_at}
+use Rattle.lt_range.specs.Spellings.{count_in, MatchesSome, Spellings}
 use Rattle.lt_range.proofs.FrontLemmas.{parted}
 use Rattle.lt_answers.specs.Closest.{ClosestAmong, FallsFirst, Holds, IsCloser, IsClosest, NoneFalls, TakesLine}
 use Rattle.lt_answers.specs.Closest.{TakesSubtags, line_at, range_at}
@@ -61,78 +62,78 @@ all_front P (range ∷ ranges) (suc n) few each = (
 
 -- ---- one more tag
 
--- tags with the subtags `lists`, and one more with the subtags `list`
-module _ (lists : List (List (List ℕ))) (list : List (List ℕ)) where
+-- tags with the spellings `lists`, and one more with the spellings `list`
+module _ (lists : List Spellings) (list : Spellings) where
   -- a range that found none of the tags, and does not fall back to the further one, finds none still
-  pub none_more : (range : RangeParts) → FindsNone lists range → (FallsBackTo range list → ⊥) → FindsNone (lists ++ list ∷ []) range
-  none_more range none not = each_more lists list [] (λ (l : List (List ℕ)). FallsBackTo range l → ⊥) none not
+  pub none_more : (range : RangeParts) → FindsNone lists range → (MatchesSome FallsBackTo range list → ⊥) → FindsNone (lists ++ list ∷ []) range
+  none_more range none not = each_more lists list [] (λ (l : Spellings). MatchesSome FallsBackTo range l → ⊥) none not
 
   -- a range finds the same tag still if it does not fall back to the further one, or if that has no more subtags
   finds_still : (range : RangeParts) (place : ℕ) → Finds range lists place
-      → (FallsBackTo range list → length list ≤ length (tag_at lists place)) → Finds range (lists ++ list ∷ []) place
+      → (MatchesSome FallsBackTo range list → count_in list ≤ count_in (tag_at lists place)) → Finds range (lists ++ list ∷ []) place
   finds_still range place f short =
       let same : tag_at (lists ++ list ∷ []) place ≡ tag_at lists place = before_last lists list [] place f.within in
       record {
         within = omega (arith, f.within, one_longer lists list []);
-        found = subst (FallsBackTo range) (sym same) f.found;
-        longest = subst (λ (t : List (List ℕ)). (i : ℕ) → i < length (lists ++ list ∷ [])
-            → FallsBackTo range (tag_at (lists ++ list ∷ []) i) → length (tag_at (lists ++ list ∷ []) i) ≤ length t)
+        found = subst (MatchesSome FallsBackTo range) (sym same) f.found;
+        longest = subst (λ (t : Spellings). (i : ℕ) → i < length (lists ++ list ∷ [])
+            → MatchesSome FallsBackTo range (tag_at (lists ++ list ∷ []) i) → count_in (tag_at (lists ++ list ∷ []) i) ≤ count_in t)
             (sym same)
-            (each_more lists list [] (λ (l : List (List ℕ)). FallsBackTo range l → length l ≤ length (tag_at lists place)) f.longest short);
+            (each_more lists list [] (λ (l : Spellings). MatchesSome FallsBackTo range l → count_in l ≤ count_in (tag_at lists place)) f.longest short);
         first = λ i before falls.
             let here : tag_at (lists ++ list ∷ []) i ≡ tag_at lists i = before_last lists list [] i (omega (arith, before, f.within)) in
-            let less : length (tag_at lists i) < length (tag_at lists place) = f.first i before (subst (FallsBackTo range) here falls) in
-            omega (arith, less, ap length here, ap length same);
+            let less : count_in (tag_at lists i) < count_in (tag_at lists place) = f.first i before (subst (MatchesSome FallsBackTo range) here falls) in
+            omega (arith, less, ap count_in here, ap count_in same);
       }
 
   -- a range that falls back to the further tag finds it, if each earlier one to which it falls back has fewer subtags
-  finds_last : (range : RangeParts) → FallsBackTo range list
-      → ((i : ℕ) → i < length lists → FallsBackTo range (tag_at lists i) → length (tag_at lists i) < length list)
+  finds_last : (range : RangeParts) → MatchesSome FallsBackTo range list
+      → ((i : ℕ) → i < length lists → MatchesSome FallsBackTo range (tag_at lists i) → count_in (tag_at lists i) < count_in list)
       → Finds range (lists ++ list ∷ []) (length lists)
   finds_last range falls longer =
       let same : tag_at (lists ++ list ∷ []) (length lists) ≡ list = at_last lists list [] in
       record {
         within = omega (arith, one_longer lists list []);
-        found = subst (FallsBackTo range) (sym same) falls;
-        longest = subst (λ (t : List (List ℕ)). (i : ℕ) → i < length (lists ++ list ∷ [])
-            → FallsBackTo range (tag_at (lists ++ list ∷ []) i) → length (tag_at (lists ++ list ∷ []) i) ≤ length t)
+        found = subst (MatchesSome FallsBackTo range) (sym same) falls;
+        longest = subst (λ (t : Spellings). (i : ℕ) → i < length (lists ++ list ∷ [])
+            → MatchesSome FallsBackTo range (tag_at (lists ++ list ∷ []) i) → count_in (tag_at (lists ++ list ∷ []) i) ≤ count_in t)
             (sym same)
-            (each_more lists list [] (λ (l : List (List ℕ)). FallsBackTo range l → length l ≤ length list)
+            (each_more lists list [] (λ (l : Spellings). MatchesSome FallsBackTo range l → count_in l ≤ count_in list)
             (λ i within f. omega (arith, longer i within f)) (λ f. omega arith));
         first = λ i before f.
             let here : tag_at (lists ++ list ∷ []) i ≡ tag_at lists i = before_last lists list [] i before in
-            let less : length (tag_at lists i) < length list = longer i before (subst (FallsBackTo range) here f) in
-            omega (arith, less, ap length here, ap length same);
+            let less : count_in (tag_at lists i) < count_in list = longer i before (subst (MatchesSome FallsBackTo range) here f) in
+            omega (arith, less, ap count_in here, ap count_in same);
       }
 
   module _ (ranges : List RangeParts) where
     -- the closest tag stays the closest if no range before its own falls back to the further tag, and if that has no
     -- more subtags where its own range falls back to it
     still : (range count place : ℕ) → IsClosest ranges lists range count place → NoneFalls ranges range list
-        → (FallsBackTo (range_at ranges range) list → length list ≤ count)
+        → (MatchesSome FallsBackTo (range_at ranges range) list → count_in list ≤ count)
         → IsClosest ranges (lists ++ list ∷ []) range count place
     still range count place c none short = record {
       within = c.within;
       before = λ i less. none_more (range_at ranges i) (c.before i less) (none i less);
       finds = finds_still (range_at ranges range) place c.finds (λ falls. omega (arith, short falls, c.counted));
-      counted = c.counted ∙ ap length (sym (before_last lists list [] place c.finds.within));
+      counted = c.counted ∙ ap count_in (sym (before_last lists list [] place c.finds.within));
     }
 
     -- the further tag is the closest if `range` is the first that falls back to it, no range before that found any tag,
     -- and `range` falls back only to earlier tags of fewer subtags
     last : (range : ℕ) → FallsFirst ranges list range → ((i : ℕ) → i < range → FindsNone lists (range_at ranges i))
-        → ((i : ℕ) → i < length lists → FallsBackTo (range_at ranges range) (tag_at lists i)
-        → length (tag_at lists i) < length list)
-        → IsClosest ranges (lists ++ list ∷ []) range (length list) (length lists)
+        → ((i : ℕ) → i < length lists → MatchesSome FallsBackTo (range_at ranges range) (tag_at lists i)
+        → count_in (tag_at lists i) < count_in list)
+        → IsClosest ranges (lists ++ list ∷ []) range (count_in list) (length lists)
     last range f before longer = record {
       within = f.within;
       before = λ i less. none_more (range_at ranges i) (before i less) (f.before i less);
       finds = finds_last (range_at ranges range) f.falls longer;
-      counted = ap length (sym (at_last lists list []));
+      counted = ap count_in (sym (at_last lists list []));
     }
 
 -- a line with a tag to which no range falls back changes nothing
-pub takes_none : (ranges : List RangeParts) (list : List (List ℕ)) (line : List ℕ) (old : Option Closest)
+pub takes_none : (ranges : List RangeParts) (list : Spellings) (line : List ℕ) (old : Option Closest)
     → NoneFalls ranges (length ranges) list → TakesSubtags ranges list line old old
 takes_none ranges list line None none = λ lines lists same held. λ i within. none_more lists list (range_at ranges i)
     (held i within) (none i within)
@@ -145,8 +146,8 @@ takes_none ranges list line (Some closest) none = λ lines lists same held. (
 )
 
 -- a line with a tag that is not closer changes nothing; `range` is the first that falls back to it
-pub takes_other : (ranges : List RangeParts) (list : List (List ℕ)) (line : List ℕ) (old : Option Closest) (range : ℕ)
-    → FallsFirst ranges list range → (IsCloser old range (length list) → ⊥) → TakesSubtags ranges list line old old
+pub takes_other : (ranges : List RangeParts) (list : Spellings) (line : List ℕ) (old : Option Closest) (range : ℕ)
+    → FallsFirst ranges list range → (IsCloser old range (count_in list) → ⊥) → TakesSubtags ranges list line old old
 takes_other ranges list line None range f not = absurd (not tt)
 takes_other ranges list line (Some closest) range f not = λ lines lists same held. (
   held.0,
@@ -155,7 +156,7 @@ takes_other ranges list line (Some closest) range f not = λ lines lists same he
         | inl later ↦ f.before i (omega (arith, less, later.1))
         | inr sooner ↦ absurd (not (inl sooner.1))
       ])
-      (λ falls. elim (leb_tells (length list) closest.count) [
+      (λ falls. elim (leb_tells (count_in list) closest.count) [
         | inl short ↦ short.1
         | inr long ↦ elim (leb_tells closest.range range) [
           | inl later ↦ elim (leb_tells range closest.range) [
@@ -170,12 +171,12 @@ takes_other ranges list line (Some closest) range f not = λ lines lists same he
 
 -- if a tag is closer by `range`, then no range before that found a tag, and `range` falls back only to tags of fewer
 -- subtags so far
-before_closer : (ranges : List RangeParts) (list : List (List ℕ)) (old : Option Closest) (range : ℕ)
-    → range < length ranges → IsCloser old range (length list)
-    → (lines : List (List ℕ)) (lists : List (List (List ℕ))) → ClosestAmong ranges lines lists old
+before_closer : (ranges : List RangeParts) (list : Spellings) (old : Option Closest) (range : ℕ)
+    → range < length ranges → IsCloser old range (count_in list)
+    → (lines : List (List ℕ)) (lists : List Spellings) → ClosestAmong ranges lines lists old
     → ((i : ℕ) → i < range → FindsNone lists (range_at ranges i))
-    × ((i : ℕ) → i < length lists → FallsBackTo (range_at ranges range) (tag_at lists i)
-    → length (tag_at lists i) < length list)
+    × ((i : ℕ) → i < length lists → MatchesSome FallsBackTo (range_at ranges range) (tag_at lists i)
+    → count_in (tag_at lists i) < count_in list)
 before_closer ranges list None range within closer lines lists held = (
   λ i less. held i (omega (arith, less, within)),
   λ i here falls. absurd (held range within i here falls),
@@ -185,15 +186,15 @@ before_closer ranges list (Some closest) range within (inl sooner) lines lists h
 before_closer ranges list (Some closest) range within (inr same) lines lists held = (
   λ i less. held.1.before i (omega (arith, less, same.0)),
   λ i here falls.
-      let most : length (tag_at lists i) ≤ length (tag_at lists held.0) = held.1.finds.longest i here
-      (subst (λ (n : ℕ). FallsBackTo (range_at ranges n) (tag_at lists i)) same.0 falls) in
+      let most : count_in (tag_at lists i) ≤ count_in (tag_at lists held.0) = held.1.finds.longest i here
+      (subst (λ (n : ℕ). MatchesSome FallsBackTo (range_at ranges n) (tag_at lists i)) same.0 falls) in
       omega (arith, most, held.1.counted, same.1),
 )
 
 -- a line with a tag that is closer becomes the closest line, `new`
-pub takes_closer : (ranges : List RangeParts) (list : List (List ℕ)) (line : List ℕ) (old : Option Closest) (new
-    : Closest) → FallsFirst ranges list new.range → IsCloser old new.range (length list)
-    → new.count ≡ length list → new.line.items ≡ line → TakesSubtags ranges list line old (Some new)
+pub takes_closer : (ranges : List RangeParts) (list : Spellings) (line : List ℕ) (old : Option Closest) (new
+    : Closest) → FallsFirst ranges list new.range → IsCloser old new.range (count_in list)
+    → new.count ≡ count_in list → new.line.items ≡ line → TakesSubtags ranges list line old (Some new)
 takes_closer ranges list line old new f closer counted copied = λ lines lists same held.
     let rest = before_closer ranges list old new.range f.within closer lines lists held in (
       length lists,
@@ -204,24 +205,24 @@ takes_closer ranges list line old new f closer counted copied = λ lines lists s
 
 -- ---- lines
 
--- the subtags of some lines, and then those of one more, are the subtags of all these lines
-pub lines_more : (R : List EntryParts) (lines : List (List ℕ)) (lists : List (List (List ℕ))) (line : List ℕ) (list
-    : List (List ℕ)) → LinesHave R lines lists → LineHas R line list
+-- the spellings of some lines, and then those of one more, are the spellings of all these lines
+pub lines_more : (R : List EntryParts) (lines : List (List ℕ)) (lists : List Spellings) (line : List ℕ) (list
+    : Spellings) → LinesHave R lines lists → LineHas R line list
     → LinesHave R (lines ++ line ∷ []) (lists ++ list ∷ [])
 lines_more R [] lists line list none has = rw none (list, [], has, refl, refl)
 lines_more R (first ∷ lines) lists line list (one, more, here, split, have) has =
-    (one, more ++ list ∷ [], here, ap (λ (l : List (List (List ℕ))). l ++ list ∷ []) split, lines_more R lines more line list have has)
+    (one, more ++ list ∷ [], here, ap (λ (l : List Spellings). l ++ list ∷ []) split, lines_more R lines more line list have has)
 
--- there are as many lists of subtags as lines
-pub same_count : (R : List EntryParts) (lines : List (List ℕ)) (lists : List (List (List ℕ))) → LinesHave R lines lists
+-- there are as many lists of spellings as lines
+pub same_count : (R : List EntryParts) (lines : List (List ℕ)) (lists : List Spellings) → LinesHave R lines lists
     → length lines ≡ length lists
 same_count R [] lists none = ap length (sym none)
 same_count R (first ∷ lines) lists (one, more, here, split, have) = ap suc (same_count R lines more have) ∙ ap length (sym split)
 
 -- `kept` is what is kept of a further line
 module _ (R : List EntryParts) (ranges : List RangeParts) (kept : List ℕ) where
-  -- a further line changes what its subtags change
-  line_taken : (list : List (List ℕ)) (line : List ℕ) (old new : Option Closest) → LineHas R line list
+  -- a further line changes what its spellings change
+  line_taken : (list : Spellings) (line : List ℕ) (old new : Option Closest) → LineHas R line list
       → TakesSubtags ranges list line old new → (lines : List (List ℕ)) → Holds R ranges lines old
       → Holds R ranges (lines ++ line ∷ []) new
   line_taken list line old new has takes lines held = record {
@@ -230,15 +231,15 @@ module _ (R : List EntryParts) (ranges : List RangeParts) (kept : List ℕ) wher
     among = takes lines held.lists (same_count R lines held.lists held.have) held.among;
   }
 
-  -- a line with subtags is short enough to be kept whole, and changes what they change
-  pub takes_line : (list : List (List ℕ)) (old new : Option Closest) → HasSubtags R (content_of kept) list
+  -- a line with spellings is short enough to be kept whole, and changes what they change
+  pub takes_line : (list : Spellings) (old new : Option Closest) → HasSubtags R (content_of kept) list
       → TakesSubtags ranges list kept old new → TakesLine R ranges kept old new
   takes_line list old new has takes = λ lines line is held.
       let short : length line ≤ longest_kept = front_short line list (subst (λ (l : List ℕ). HasSubtags R (content_of l) list) is has) in
       let whole : kept ≡ line = is ∙ take_all longest_kept line short in
       subst (λ (l : List ℕ). Holds R ranges (lines ++ l ∷ []) new) whole (line_taken list kept old new (inl has) takes lines held)
     where
-      front_short : (line : List ℕ) (list : List (List ℕ)) → HasSubtags R (content_of (take longest_kept line)) list
+      front_short : (line : List ℕ) (list : Spellings) → HasSubtags R (content_of (take longest_kept line)) list
           → length line ≤ longest_kept
       front_short line list h = elim (leb_tells (length line) longest_kept) [
         | inl short ↦ short.1
@@ -252,11 +253,11 @@ module _ (R : List EntryParts) (ranges : List RangeParts) (kept : List ℕ) wher
             ))
       ]
 
-  -- a line without subtags is found by no range, and changes nothing
+  -- a line without spellings is found by no range, and changes nothing
   pub takes_nothing : (old : Option Closest) → HasNoSubtags R (content_of kept) → TakesLine R ranges kept old old
   takes_nothing old none = λ lines line is held.
       line_taken [] line old old (inr (none_whole line is, refl))
-      (takes_none ranges [] line old (λ i within falls. absurd (omega (arith, falls.left.some)))) lines held
+      (takes_none ranges [] line old (λ i within falls. absurd falls)) lines held
     where
       none_whole : (line : List ℕ) → kept ≡ take longest_kept line → HasNoSubtags R (content_of line)
       none_whole line is = λ list h.

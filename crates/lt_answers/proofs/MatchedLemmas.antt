@@ -1,4 +1,4 @@
--- Lemmas for `is_selected`: a text is matched exactly if a range matches its subtags, and of a long line the front that
+-- Lemmas for `is_selected`: a text is matched exactly if a range matches one of its spellings, and of a long line the front that
 -- is kept tells whether the line is selected.
 use Rattle.std.proofs.Common.{◌≡◌, ◌≤◌, ◌+◌, ◌-◌, ◌↔◌, inl, inr, Bool, IsTrue, true, false, ℕ, List, length, take}
 use Rattle.std.proofs.Common.{subst, arith, if◌then◌else◌, length-take-le}
@@ -11,40 +11,41 @@ use Rattle.lt_tag.proofs.OneTagLemmas.{one_tag_of_text}
 use Rattle.lt_registry.specs.Parts.{EntryParts}
 use Rattle.lt_range.specs.Ranges.{RangeParts}
 use Rattle.lt_range.specs.Laws.{MatchingIsDetermined}
-use Rattle.lt_range.specs.Matched.{HasExtlangList, HasNoSubtags, HasSubtags}
-use Rattle.lt_answers.specs.Selection.{AnyMatches, IsMatched, IsSelected, Selection, longest_kept, scheme_of}
-use Rattle.lt_answers.specs.declared.schemes.Scheme.{Scheme}
+use Rattle.lt_range.specs.Matched.{AnyMatches, HasNoSubtags, HasSubtags}
+use Rattle.lt_range.specs.Spellings.{HasSpellings, Spellings}
+use Rattle.lt_answers.specs.Selection.{IsMatched, IsSelected, Selection, longest_kept}
+use Rattle.lt_range.specs.declared.matching.Scheme.{Scheme}
 
 -- ---- texts
 
 -- a text that is to be matched, by the entries of a registry
 module _ (R : List EntryParts) (text : List ℕ) where
-  -- the subtags that a text has are those of the tag that it is read as
-  same_tag : (tag : TagForm) → HasTag text tag → (list : List (List ℕ)) → HasSubtags R text list → HasExtlangList R tag list
-  same_tag tag read list h = subst (λ (t : TagForm). HasExtlangList R t list) (one_tag_of_text text h.tag tag h.read read) h.holds
+  -- the spellings that a text has are those of the tag that it is read as
+  same_tag : (tag : TagForm) → HasTag text tag → (lists : Spellings) → HasSubtags R text lists → HasSpellings R tag lists
+  same_tag tag read lists h = subst (λ (t : TagForm). HasSpellings R t lists) (one_tag_of_text text h.tag tag h.read read) h.holds
 
   module _ (scheme : Scheme) (ranges : List RangeParts) where
-    -- a text that is matched has the subtags that are matched
-    has_subtags : (m : IsMatched R scheme ranges text) → HasSubtags R text m.list
-    has_subtags m = record { tag = m.tag; read = m.read; holds = m.extlang }
+    -- a text that is matched has the spellings that are matched
+    has_subtags : (m : IsMatched R scheme ranges text) → HasSubtags R text m.lists
+    has_subtags m = record { tag = m.tag; read = m.read; holds = m.has }
 
-    -- a text with these subtags is matched where some range matches them; `matched` is what the program tells
-    pub matched_as : (list : List (List ℕ)) (matched : Bool) → MatchingIsDetermined R → HasSubtags R text list
-        → IsTrue matched ↔ AnyMatches (scheme_of scheme) ranges list
+    -- a text with these spellings is matched where some range matches one of them; `matched` is what the program tells
+    pub matched_as : (lists : Spellings) (matched : Bool) → MatchingIsDetermined R → HasSubtags R text lists
+        → IsTrue matched ↔ AnyMatches scheme ranges lists
         → IsTrue matched ↔ IsMatched R scheme ranges text
-    matched_as list matched one reads tells = (
-      λ is. record { tag = reads.tag; read = reads.read; list = list; extlang = reads.holds; matches = tells.0 is },
+    matched_as lists matched one reads tells = (
+      λ is. record { tag = reads.tag; read = reads.read; lists = lists; has = reads.holds; matches = tells.0 is },
       λ m. tells.1
-          (subst (AnyMatches (scheme_of scheme) ranges)
-          (one.list reads.tag m.list list (same_tag reads.tag reads.read m.list (has_subtags m)) reads.holds)
+          (subst (AnyMatches scheme ranges)
+          (one.list reads.tag m.lists lists (same_tag reads.tag reads.read m.lists (has_subtags m)) reads.holds)
           m.matches),
     )
 
-    -- a text without subtags is matched by no range
+    -- a text without spellings is matched by no range
     pub none_matched : HasNoSubtags R text → IsTrue false ↔ IsMatched R scheme ranges text
     none_matched none = (
       λ no. let bad : false ≡ true = no in cc,
-      λ m. absurd (none m.list (has_subtags m)),
+      λ m. absurd (none m.lists (has_subtags m)),
     )
 
 -- ---- long lines

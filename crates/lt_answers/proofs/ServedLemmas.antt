@@ -12,6 +12,7 @@ use Rattle.lt_jar.specs.Lines.{content_of}
 use Rattle.lt_registry.specs.Parts.{EntryParts}
 use Rattle.lt_range.specs.Matched.{HasNoSubtags, HasSubtags}
 use Rattle.lt_range.specs.Preferences.{FirstServes, IsBest}
+use Rattle.lt_range.specs.Spellings.{Spellings}
 use Rattle.lt_range.specs.declared.preferences.Preference.{Preference}
 use Rattle.lt_answers.specs.Selection.{longest_kept}
 use Rattle.lt_answers.specs.Served.{AreTagLines, IsTagLine, PutsLine, ServesOf, TakesTag, texts_of}
@@ -37,10 +38,10 @@ tag_tells R = record {
   front = front_short R;
 }
 
--- `kept` is what is kept of a further line; before it `old` are the lines that are tags, and `tags` their subtags
-module _ (R : List EntryParts) (kept : List ℕ) (old : List (Vec ℕ Global)) (tags : List (List (List ℕ))) where
+-- `kept` is what is kept of a further line; before it `old` are the lines that are tags, and `tags` their spellings
+module _ (R : List EntryParts) (kept : List ℕ) (old : List (Vec ℕ Global)) (tags : List Spellings) where
   -- if a further line is a tag, and is put after the others, these are the lines that are tags
-  pub takes_tag : (new : List (Vec ℕ Global)) (tags' : List (List (List ℕ))) (list : List (List ℕ))
+  pub takes_tag : (new : List (Vec ℕ Global)) (tags' : List Spellings) (list : Spellings)
       → HasSubtags R (content_of kept) list → PutsLine kept list old new tags tags' → TakesTag R kept old new tags tags'
   takes_tag new tags' list has puts = λ lines line is before.
       let short = front_short R line (subst (IsTagLine R) is (list, has)) in
@@ -63,7 +64,7 @@ module _ (R : List EntryParts) (kept : List ℕ) (old : List (Vec ℕ Global)) (
 -- ---- the line that is served
 
 -- the tags, of which preferences serve one
-module _ (all : List Preference) (tags : List (List (List ℕ))) where
+module _ (all : List Preference) (tags : List Spellings) where
   -- the tag that is served in a turn is one of the tags
   turn_within : (wild : Bool) (place : ℕ) → FirstServes wild all tags place → place < length tags
   turn_within wild place f = elim f.serves [

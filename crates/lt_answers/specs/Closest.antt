@@ -6,6 +6,7 @@ use Rattle.lt_registry.specs.Parts.{EntryParts}
 use Rattle.lt_range.specs.Ranges.{RangeParts}
 use Rattle.lt_range.specs.Matching.{FallsBackTo}
 use Rattle.lt_range.specs.Lookup.{Finds, FindsNone, tag_at}
+use Rattle.lt_range.specs.Spellings.{count_in, MatchesSome, Spellings}
 use Rattle.lt_stream.specs.declared.faults.ToolFault.{ToolFault}
 use Rattle.lt_stream.specs.declared.faults.ToolFault.TheVariants as faults
 use Rattle.lt_answers.specs.LookedUp.{LinesHave}
@@ -20,32 +21,32 @@ range_at ranges i = slice_index_or ranges i (record { wild = true; named = [] })
 abbrev pub line_at : List (List ℕ) → ℕ → List ℕ
 line_at lines i = slice_index_or lines i []
 
--- none of the first `count` ranges falls back to the tag whose subtags are `list`
-abbrev pub NoneFalls : List RangeParts → ℕ → List (List ℕ) → Type 0
-NoneFalls ranges count list = (i : ℕ) → i < count → FallsBackTo (range_at ranges i) list → ⊥
+-- none of the first `count` ranges falls back to a tag
+abbrev pub NoneFalls : List RangeParts → ℕ → Spellings → Type 0
+NoneFalls ranges count tag = (i : ℕ) → i < count → MatchesSome FallsBackTo (range_at ranges i) tag → ⊥
 
--- the range at `place` is the first that falls back to the tag whose subtags are `list`
-pub record FallsFirst (ranges : List RangeParts) (list : List (List ℕ)) (place : ℕ) : Type 0 where
+-- the range at `place` is the first that falls back to a tag
+pub record FallsFirst (ranges : List RangeParts) (tag : Spellings) (place : ℕ) : Type 0 where
   pub within : place < length ranges
-  pub falls : FallsBackTo (range_at ranges place) list
-  pub before : NoneFalls ranges place list
+  pub falls : MatchesSome FallsBackTo (range_at ranges place) tag
+  pub before : NoneFalls ranges place tag
 
--- the first range that finds one of the tags, whose subtags are `lists`, is the one at `range`, and it finds the one at
--- `place`, which has `count` subtags
-pub record IsClosest (ranges : List RangeParts) (lists : List (List (List ℕ))) (range count place : ℕ) : Type 0 where
+-- the first range that finds one of the tags, whose spellings are `lists`, is the one at `range`, and it finds the one at
+-- `place`, which has `count` subtags in its first spelling
+pub record IsClosest (ranges : List RangeParts) (lists : List Spellings) (range count place : ℕ) : Type 0 where
   pub within : range < length ranges
   pub before : (i : ℕ) → i < range → FindsNone lists (range_at ranges i)
   pub finds : Finds (range_at ranges range) lists place
-  pub counted : count ≡ length (tag_at lists place)
+  pub counted : count ≡ count_in (tag_at lists place)
 
 -- a tag of `count` subtags, to which the range at the place `range` falls back, is closer than what was found before
 abbrev pub IsCloser : Option Closest → (range count : ℕ) → Type 0
 IsCloser None range count = Unit {0}
 IsCloser (Some closest) range count = (range < closest.range) ⊎ ((range ≡ closest.range) × (closest.count < count))
 
--- this is the closest of these lines, whose tags have the subtags `lists`, with the place of the range that finds it
+-- this is the closest of these lines, whose tags have the spellings `lists`, with the place of the range that finds it
 -- and how many subtags its tag has; or None if no range finds a line
-abbrev pub ClosestAmong : List RangeParts → List (List ℕ) → List (List (List ℕ)) → Option Closest → Type 0
+abbrev pub ClosestAmong : List RangeParts → List (List ℕ) → List Spellings → Option Closest → Type 0
 ClosestAmong ranges lines lists None = (i : ℕ) → i < length ranges → FindsNone lists (range_at ranges i)
 ClosestAmong ranges lines lists (Some closest) = (place : ℕ) × IsClosest ranges lists closest.range closest.count place
     × (line_at lines place ≡ closest.line.items)
@@ -53,7 +54,7 @@ ClosestAmong ranges lines lists (Some closest) = (place : ℕ) × IsClosest rang
 -- `closest` is the closest of these lines by the entries R, or None if no range finds a line
 pub record Holds (R : List EntryParts) (ranges : List RangeParts) (lines : List (List ℕ))
     (closest : Option Closest) : Type 0 where
-  pub lists : List (List (List ℕ))
+  pub lists : List Spellings
   pub have : LinesHave R lines lists
   pub among : ClosestAmong ranges lines lists closest
 
@@ -62,12 +63,12 @@ abbrev pub TakesLine : List EntryParts → List RangeParts → (kept : List ℕ)
 TakesLine R ranges kept old new = (lines : List (List ℕ)) (line : List ℕ) → kept ≡ take longest_kept line
     → Holds R ranges lines old → Holds R ranges (lines ++ line ∷ []) new
 
--- if `old` is the closest of any lines, `new` is the closest of them and `line`, whose tag has the subtags `list`
-abbrev pub TakesSubtags : List RangeParts → (list : List (List ℕ)) → (line : List ℕ)
+-- if `old` is the closest of any lines, `new` is the closest of them and `line`, whose tag has the spellings `tag`
+abbrev pub TakesSubtags : List RangeParts → (tag : Spellings) → (line : List ℕ)
     → (old new : Option Closest) → Type 0
-TakesSubtags ranges list line old new =
-    (lines : List (List ℕ)) (lists : List (List (List ℕ))) → length lines ≡ length lists
-    → ClosestAmong ranges lines lists old → ClosestAmong ranges (lines ++ line ∷ []) (lists ++ list ∷ []) new
+TakesSubtags ranges tag line old new =
+    (lines : List (List ℕ)) (lists : List Spellings) → length lines ≡ length lists
+    → ClosestAmong ranges lines lists old → ClosestAmong ranges (lines ++ line ∷ []) (lists ++ tag ∷ []) new
 
 -- how a run ends if what it writes is kept in memory: a write that fails is a lack of memory
 abbrev pub in_memory : Result (Unit {0}) ToolFault → Result (Unit {0}) ToolFault

@@ -8,7 +8,7 @@ use Rattle.lt_range.specs.Ranges.{RangeParts}
 use Rattle.lt_canon.specs.ExplanationTexts.{IsExplanationTextOf}
 use Rattle.lt_answers.specs.Selection.{AreSelected, IsSelected}
 use Rattle.lt_answers.specs.Verdicts.{IsVerdict}
-use Rattle.lt_answers.specs.declared.schemes.Scheme.{Scheme}
+use Rattle.lt_range.specs.declared.matching.Scheme.{Scheme}
 use Rattle.lt_answers.specs.declared.verdicts.Verdict.{Verdict}
 use Rattle.lt_answers.specs.declared.verdicts.Verdict.TheVariants as verdicts
 

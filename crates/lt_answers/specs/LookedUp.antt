@@ -6,24 +6,25 @@ use Rattle.lt_registry.specs.Parts.{EntryParts}
 use Rattle.lt_range.specs.Ranges.{RangeParts}
 use Rattle.lt_range.specs.Lookup.{IsDefault, IsFound}
 use Rattle.lt_range.specs.Matched.{HasNoSubtags, HasSubtags}
+use Rattle.lt_range.specs.Spellings.{Spellings}
 use Rattle.lt_answers.specs.Searching.{Finding}
 
--- The subtags by which a line is looked up: those of the extlang form of its tag. A carriage return (13) that ends
--- the line is no part of the tag. A line that has no extlang form has no subtags, and no range finds it.
-abbrev pub LineHas : List EntryParts → List ℕ → List (List ℕ) → Type 0
-LineHas R line list = HasSubtags R (content_of line) list ⊎ (HasNoSubtags R (content_of line) × (list ≡ []))
+-- The spellings by which a line is looked up: those of its tag. A carriage return (13) that ends the line is no part of
+-- the tag. A line that has no extlang form has no spellings, and no range finds it.
+abbrev pub LineHas : List EntryParts → List ℕ → Spellings → Type 0
+LineHas R line tag = HasSubtags R (content_of line) tag ⊎ (HasNoSubtags R (content_of line) × (tag ≡ []))
 
--- the subtags by which each of these lines is looked up, in order
-abbrev pub LinesHave : List EntryParts → List (List ℕ) → List (List (List ℕ)) → Type 0
-LinesHave R [] lists = lists ≡ []
-LinesHave R (line ∷ lines) lists = (list : List (List ℕ)) × (more : List (List (List ℕ))) × LineHas R line list
-    × (lists ≡ list ∷ more) × LinesHave R lines more
+-- the spellings by which each of these lines is looked up, in order
+abbrev pub LinesHave : List EntryParts → List (List ℕ) → List Spellings → Type 0
+LinesHave R [] tags = tags ≡ []
+LinesHave R (line ∷ lines) tags = (tag : Spellings) × (more : List Spellings) × LineHas R line tag
+    × (tags ≡ tag ∷ more) × LinesHave R lines more
 
 -- lookup finds this line: only the first range that finds a line counts, and this is the first of the lines that are
 -- closest to that range
 pub record FindsLine (R : List EntryParts) (ranges : List RangeParts) (lines : List (List ℕ))
     (line : List ℕ) : Type 0 where
-  pub lists : List (List (List ℕ))
+  pub lists : List Spellings
   pub have : LinesHave R lines lists
   pub place : ℕ
   pub found : IsFound ranges lists place
@@ -31,7 +32,7 @@ pub record FindsLine (R : List EntryParts) (ranges : List RangeParts) (lines : L
 
 -- lookup finds no line, so that a default is to be used
 pub record FindsNoLine (R : List EntryParts) (ranges : List RangeParts) (lines : List (List ℕ)) : Type 0 where
-  pub lists : List (List (List ℕ))
+  pub lists : List Spellings
   pub have : LinesHave R lines lists
   pub none : IsDefault ranges lists
 

@@ -6,28 +6,18 @@ use Rattle.lt_tag.specs.Parts.{TagForm}
 use Rattle.lt_tag.specs.Faults.{HasTag}
 use Rattle.lt_registry.specs.Parts.{EntryParts}
 use Rattle.lt_range.specs.Ranges.{RangeParts}
-use Rattle.lt_range.specs.Matched.{BasicFiltering, ExtendedFiltering, HasExtlangList, MatchesBy, MatchingScheme}
-use Rattle.lt_answers.specs.declared.schemes.Scheme.{Scheme}
-use Rattle.lt_answers.specs.declared.schemes.Scheme.TheVariants as schemes
+use Rattle.lt_range.specs.Matched.{AnyMatches}
+use Rattle.lt_range.specs.Spellings.{HasSpellings, Spellings}
+use Rattle.lt_range.specs.declared.matching.Scheme.{Scheme}
 
--- the schemes of filtering, as schemes of matching (RFC 4647, 3.3.1 and 3.3.2)
-abbrev pub scheme_of : Scheme → MatchingScheme
-scheme_of schemes.Basic = BasicFiltering
-scheme_of schemes.Extended = ExtendedFiltering
-
--- one of the ranges matches the subtags of the tag
-abbrev pub AnyMatches : MatchingScheme → List RangeParts → List (List ℕ) → Type 0
-AnyMatches scheme [] list = ⊥
-AnyMatches scheme (range ∷ ranges) list = MatchesBy scheme range list ⊎ AnyMatches scheme ranges list
-
--- The text is a tag, and one of the ranges matches the subtags of its extlang form (RFC 5646, 4.5). No range matches
--- a text that has no extlang form.
+-- The text is a tag, and one of the ranges matches one of its spellings, of which the first is its extlang form (RFC
+-- 5646, 4.5). No range matches a text that has no extlang form.
 pub record IsMatched (R : List EntryParts) (scheme : Scheme) (ranges : List RangeParts) (text : List ℕ) : Type 0 where
   pub tag : TagForm
   pub read : HasTag text tag
-  pub list : List (List ℕ)
-  pub extlang : HasExtlangList R tag list
-  pub matches : AnyMatches (scheme_of scheme) ranges list
+  pub lists : Spellings
+  pub has : HasSpellings R tag lists
+  pub matches : AnyMatches scheme ranges lists
 
 -- the line is selected by ranges; a carriage return (13) that ends it is no part of the tag
 abbrev pub IsSelected : List EntryParts → Scheme → List RangeParts → List ℕ → Type 0

@@ -4,8 +4,7 @@ ghost use Rattle.std.specs.Prelude.{◌↔◌, IsTrue, MatchOption, OnOk, length
 ghost use Rattle.lt_answers.specs.Closest as spec;
 
 use crate::matching::without_return;
-use lt_canon::Checked;
-use lt_range::{LanguageRange, TagSubtags, known_subtags};
+use lt_range::{LanguageRange, MatchingTable, TagSubtags, known_subtags};
 use lt_registry::Lookup;
 use lt_tag::OutOfMemory;
 use std::alloc::Global;
@@ -67,20 +66,20 @@ fn take_subtags(
     Ok(())
 }
 
-/// Makes a line the closest one if it is a tag that a range finds by its extlang form, and that range comes before the
+/// Makes a line the closest one if it is a tag that a range finds, and that range comes before the
 /// range that found the closest line so far, or is the same and this tag has more subtags. The caller cuts a long line
 /// to `LONGEST_KEPT` bytes, since the bytes after them change nothing. The clause holds for any lines before, which are
 /// not kept, and any line that is cut to `line`. Refused where memory runs out.
 pub(crate) fn take_line<L: Lookup>(
     alloc: Global,
-    checked: &Checked<L>,
+    table: &MatchingTable<L>,
     ranges: &[LanguageRange],
     line: &[u8],
     closest: &mut Option<Closest>,
 ) -> Result<(), OutOfMemory>
-    ensures { OnOk result (spec.TakesLine (L.listed checked.now) ranges.now line.now closest.old closest.new) }
+    ensures { OnOk result (spec.TakesLine (L.listed table.now) ranges.now line.now closest.old closest.new) }
 {
-    match known_subtags(alloc, checked, without_return(line))? {
+    match known_subtags(alloc, table, without_return(line))? {
         Some(subtags) => take_subtags(alloc, ranges, &subtags, line, closest),
         None => Ok(()),
     }

@@ -9,9 +9,8 @@ ghost use Rattle.lt_answers.specs.Selection.{longest_kept};
 
 use crate::closest::{Closest, take_line};
 use crate::selecting;
-use lt_canon::Checked;
 use lt_jar::Device;
-use lt_range::LanguageRange;
+use lt_range::{LanguageRange, MatchingTable};
 use lt_registry::Lookup;
 use lt_stream::{Lines, ToolFault, run_text};
 use lt_tag::OutOfMemory;
@@ -21,7 +20,7 @@ use std::io::Read;
 /// What looks up lines.
 #[derive(Drop)]
 struct LookingUp<'a, L: Lookup> {
-    checked: &'a Checked<L>,
+    table: &'a MatchingTable<L>,
     ranges: &'a [LanguageRange],
     /// The closest line so far, if a range finds any.
     closest: Option<Closest>,
@@ -32,8 +31,8 @@ impl<'a, L: Lookup> Lines for LookingUp<'a, L> {
 
     /// The table and the ranges are those of the beginning, nothing is written, and `closest` is the closest of the
     /// lines.
-    ghost answered = { λ first here lines bytes. (here.checked.now ≡ first.checked.now) × (here.ranges.now ≡ first.ranges.now)
-        × (bytes ≡ []) × Holds (L.listed here.checked.now) here.ranges.now lines here.closest };
+    ghost answered = { λ first here lines bytes. (here.table.now ≡ first.table.now) × (here.ranges.now ≡ first.ranges.now)
+        × (bytes ≡ []) × Holds (L.listed here.table.now) here.ranges.now lines here.closest };
 
     /// As many bytes of a line as tell which tag it is, or that it is too long to be one.
     fn longest(&self) -> usize {
@@ -47,7 +46,7 @@ impl<'a, L: Lookup> Lines for LookingUp<'a, L> {
         line: &[u8],
         _owed: &mut Vec<u8>,
     ) -> Result<(), OutOfMemory> {
-        take_line(alloc, self.checked, self.ranges, line, &mut self.closest)
+        take_line(alloc, self.table, self.ranges, line, &mut self.closest)
     }
 }
 
@@ -57,7 +56,7 @@ impl<'a, L: Lookup> LookingUp<'a, L> {
         ensures { result ≡ option_map (λ closest. closest.line) self.entry.closest }
     {
         let LookingUp {
-            checked: _,
+            table: _,
             ranges: _,
             closest,
         } = self;
@@ -97,14 +96,14 @@ pub(crate) fn in_memory(end: Result<(), ToolFault>) -> Result<(), ToolFault>
 /// - `OutOfMemory`, if memory runs out.
 pub fn look_up_line<L: Lookup, R: Read>(
     alloc: Global,
-    checked: &Checked<L>,
+    table: &MatchingTable<L>,
     ranges: &[LanguageRange],
     input: &mut Device<R>,
 ) -> Result<Option<Vec<u8>>, ToolFault>
-    ensures { SearchesLines (LooksUp (L.listed checked.now) ranges.now) R.remaining input.old input.new result }
+    ensures { SearchesLines (LooksUp (L.listed table.now) ranges.now) R.remaining input.old input.new result }
 {
     let looking = LookingUp {
-        checked,
+        table,
         ranges,
         closest: None,
     };

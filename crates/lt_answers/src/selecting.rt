@@ -4,10 +4,8 @@ ghost use Rattle.lt_answers.specs.Selecting.{SelectsLines};
 ghost use Rattle.lt_answers.specs.Selection.{AreOwed, IsSelected, longest_kept};
 
 use crate::matching::is_selected;
-use crate::schemes::Scheme;
-use lt_canon::Checked;
 use lt_jar::Device;
-use lt_range::LanguageRange;
+use lt_range::{LanguageRange, MatchingTable, Scheme};
 use lt_registry::Lookup;
 use lt_stream::{Lines, ToolFault, run_text};
 use lt_tag::OutOfMemory;
@@ -21,7 +19,7 @@ pub(crate) const LONGEST_KEPT: usize = 1026;
 /// What selects lines.
 #[derive(Drop)]
 struct Selecting<'a, L: Lookup> {
-    checked: &'a Checked<L>,
+    table: &'a MatchingTable<L>,
     scheme: Scheme,
     ranges: &'a [LanguageRange],
     /// How many lines were selected so far.
@@ -33,8 +31,8 @@ impl<'a, L: Lookup> Lines for Selecting<'a, L> {
 
     /// The table, the scheme and the ranges are those of the beginning, and the bytes are the selected lines, `count`
     /// of them.
-    ghost answered = { λ first here lines bytes. (here.checked.now ≡ first.checked.now) × (here.scheme ≡ first.scheme) × (here.ranges.now ≡ first.ranges.now)
-        × AreOwed (IsSelected (L.listed here.checked.now) here.scheme here.ranges.now) lines bytes here.count };
+    ghost answered = { λ first here lines bytes. (here.table.now ≡ first.table.now) × (here.scheme ≡ first.scheme) × (here.ranges.now ≡ first.ranges.now)
+        × AreOwed (IsSelected (L.listed here.table.now) here.scheme here.ranges.now) lines bytes here.count };
 
     /// As many bytes of a line as tell which tag it is; a longer line is too long to be one, and is not selected.
     fn longest(&self) -> usize {
@@ -48,7 +46,7 @@ impl<'a, L: Lookup> Lines for Selecting<'a, L> {
         line: &[u8],
         owed: &mut Vec<u8>,
     ) -> Result<(), OutOfMemory> {
-        if !is_selected(alloc, self.checked, self.scheme, self.ranges, line)? {
+        if !is_selected(alloc, self.table, self.scheme, self.ranges, line)? {
             return Ok(());
         }
         owed.extend_from_slice(line)?;
@@ -76,16 +74,16 @@ impl<'a, L: Lookup> Lines for Selecting<'a, L> {
 ///   what is owed have been written, perhaps none.
 pub fn select_lines<L: Lookup, R: Read, W: Write>(
     alloc: Global,
-    checked: &Checked<L>,
+    table: &MatchingTable<L>,
     scheme: Scheme,
     ranges: &[LanguageRange],
     input: &mut Device<R>,
     output: &mut Device<W>,
 ) -> Result<u64, ToolFault>
-    ensures { SelectsLines (IsSelected (L.listed checked.now) scheme ranges.now) R.remaining W.contents input.old input.new output.old output.new result }
+    ensures { SelectsLines (IsSelected (L.listed table.now) scheme ranges.now) R.remaining W.contents input.old input.new output.old output.new result }
 {
     let selecting = Selecting {
-        checked,
+        table,
         scheme,
         ranges,
         count: 0,

@@ -8,9 +8,8 @@ ghost use Rattle.lt_answers.specs.Served.{AreTagLines, PutsLine, ServesAmong, Se
 use crate::looking::in_memory;
 use crate::matching::without_return;
 use crate::selecting;
-use lt_canon::Checked;
 use lt_jar::Device;
-use lt_range::{Preference, TagSubtags, best, known_subtags};
+use lt_range::{MatchingTable, Preference, TagSubtags, best, known_subtags};
 use lt_registry::Lookup;
 use lt_stream::{Lines, ToolFault, run_text};
 use lt_tag::OutOfMemory;
@@ -20,7 +19,7 @@ use std::io::Read;
 /// What keeps the lines that are tags.
 #[derive(Drop)]
 struct Keeping<'a, L: Lookup> {
-    checked: &'a Checked<L>,
+    table: &'a MatchingTable<L>,
     /// The lines that are tags.
     lines: Vec<Vec<u8>>,
     /// The subtags by which these lines are matched, in the same order.
@@ -31,8 +30,8 @@ impl<'a, L: Lookup> Lines for Keeping<'a, L> {
     ghost longest = { longest_kept };
 
     /// The table is that of the beginning, nothing is written, and the lines that are tags are kept with their subtags.
-    ghost answered = { λ first here lines bytes. (here.checked.now ≡ first.checked.now) × (bytes ≡ [])
-        × AreTagLines (L.listed here.checked.now) lines (texts_of here.lines.items) here.tags.items };
+    ghost answered = { λ first here lines bytes. (here.table.now ≡ first.table.now) × (bytes ≡ [])
+        × AreTagLines (L.listed here.table.now) lines (texts_of here.lines.items) here.tags.items };
 
     /// As many bytes of a line as tell which tag it is, or that it is too long to be one.
     fn longest(&self) -> usize {
@@ -46,7 +45,7 @@ impl<'a, L: Lookup> Lines for Keeping<'a, L> {
         line: &[u8],
         _owed: &mut Vec<u8>,
     ) -> Result<(), OutOfMemory> {
-        take_tag(alloc, self.checked, line, &mut self.lines, &mut self.tags)
+        take_tag(alloc, self.table, line, &mut self.lines, &mut self.tags)
     }
 }
 
@@ -71,14 +70,14 @@ fn put_line(
 /// out.
 fn take_tag<L: Lookup>(
     alloc: Global,
-    checked: &Checked<L>,
+    table: &MatchingTable<L>,
     line: &[u8],
     lines: &mut Vec<Vec<u8>>,
     tags: &mut Vec<TagSubtags>,
 ) -> Result<(), OutOfMemory>
-    ensures { OnOk result (TakesTag (L.listed checked.now) line.now lines.old.items lines.new.items tags.old.items tags.new.items) }
+    ensures { OnOk result (TakesTag (L.listed table.now) line.now lines.old.items lines.new.items tags.old.items tags.new.items) }
 {
-    match known_subtags(alloc, checked, without_return(line))? {
+    match known_subtags(alloc, table, without_return(line))? {
         Some(subtags) => put_line(alloc, line, subtags, lines, tags),
         None => Ok(()),
     }
@@ -108,7 +107,7 @@ fn served(preferences: &[Preference], lines: Vec<Vec<u8>>, tags: &[TagSubtags]) 
 /// 12.5.4), as it stands. Of the lines that are tags, it is the one that [`best`] chooses. None if the preferences
 /// serve no line: the caller takes a default then.
 ///
-/// A line is matched as the tag that it is, by the subtags of its extlang form (RFC 5646, 4.5): `yue` is served `zh-yue`. No
+/// A line is matched as the tag that it is, in each of its spellings: `yue` is served `zh-yue`. No
 /// line is served that is no valid tag, or a tag that has no extlang form.
 ///
 /// A byte order mark of UTF-8 before the first line is passed over. A line feed ends a line, and bytes after the last line
@@ -121,14 +120,14 @@ fn served(preferences: &[Preference], lines: Vec<Vec<u8>>, tags: &[TagSubtags]) 
 /// - `OutOfMemory`, if memory runs out.
 pub fn serve_line<L: Lookup, R: Read>(
     alloc: Global,
-    checked: &Checked<L>,
+    table: &MatchingTable<L>,
     preferences: &[Preference],
     input: &mut Device<R>,
 ) -> Result<Option<Vec<u8>>, ToolFault>
-    ensures { SearchesLines (ServesAmong (L.listed checked.now) preferences.now) R.remaining input.old input.new result }
+    ensures { SearchesLines (ServesAmong (L.listed table.now) preferences.now) R.remaining input.old input.new result }
 {
     let keeping = Keeping {
-        checked,
+        table,
         lines: Vec::new(alloc),
         tags: Vec::new(alloc),
     };
@@ -136,7 +135,7 @@ pub fn serve_line<L: Lookup, R: Read>(
     let (keeping, end) = run_text(alloc, keeping, input, &mut none);
     in_memory(end)?;
     let Keeping {
-        checked: _,
+        table: _,
         lines,
         tags,
     } = keeping;

@@ -2,20 +2,30 @@
 mod growths;
 mod lines;
 
-use lt_check::Checked;
-use lt_range::{LanguageRange, RangeRefusal, extlang_range};
+use lt_range::{LanguageRange, MatchingTable, RangeRefusal, append_ranges};
 use lt_registry::SortedTable;
 use lt_testing::retried;
 use std::alloc::Global;
 
-/// The range by which a text matches.
-fn range_of(
+/// The ranges by which a text matches.
+fn ranges_of_text(
     alloc: Global,
-    checked: &Checked<SortedTable>,
+    table: &MatchingTable<SortedTable>,
     text: &str,
-) -> Result<LanguageRange, RangeRefusal> {
+) -> Result<Vec<LanguageRange>, RangeRefusal> {
+    let mut ranges = Vec::new(alloc);
+    append_ranges(alloc, table, text.as_bytes(), &mut ranges)?;
+    Ok(ranges)
+}
+
+/// The ranges by which a text matches, asked for again where a growth was refused.
+fn ranges_of(
+    alloc: Global,
+    table: &MatchingTable<SortedTable>,
+    text: &str,
+) -> Result<Vec<LanguageRange>, RangeRefusal> {
     retried!(
-        extlang_range(alloc, checked, text.as_bytes()),
+        ranges_of_text(alloc, table, text),
         RangeRefusal::OutOfMemory
     )
 }

@@ -1,16 +1,15 @@
--- `preferences_of` gives for each element of a header its preference, or refuses the range of one. By these lemmas
+-- `preferences_of` gives for each element of a header its preferences, or refuses the range of one. By these lemmas
 -- `header_preferences` answers what the header asks for, or why it gives no preferences.
-use Rattle.std.proofs.Common.{◌≡◌, ◌<◌, ◌+◌, ◌++◌, ◌∷◌, ◌∙◌, false, ℕ, List, [], length, get_or, map, refl, sym, ap, subst, arith}
-use Rattle.std.proofs.lemmas.List.{get_or_append_left, get_or_push, get_or-map, length-append, length-map}
-use borrow.Author.Count.{below_more}
+use Rattle.std.proofs.Common.{◌≡◌, ◌<◌, ◌≤◌, ◌+◌, ◌++◌, ◌∷◌, ◌∙◌, ℕ, List, [], drop, length, get_or, map, refl, sym, ap, subst, arith}
+use Rattle.std.proofs.lemmas.List.{append_assoc, append-nil, drop_more, get_or-map, length-map}
+use Rattle.std.proofs.Math.ListN.{drop_of_length-le}
 use Rattle.lt_registry.specs.Parts.{EntryParts}
-use Rattle.lt_range.specs.Asked.{ArePreferencesOf, element_at_place, HasRefusedRange, IsElementRefusal}
-use Rattle.lt_range.specs.Asked.{IsHeaderRefusal, IsPreferenceOf}
+use Rattle.lt_range.specs.Asked.{ArePreferences, ArePreferencesOf, element_at_place, HasRefusedRange, IsElementRefusal}
+use Rattle.lt_range.specs.Asked.{IsHeaderRefusal, weighted}
 use Rattle.lt_range.specs.Elements.{ElementParts, parts_of}
 use Rattle.lt_range.specs.HeaderRefusals.{of_accept_fault, of_range_refusal}
 use Rattle.lt_range.specs.Headers.{elements_of, IsFault}
-use Rattle.lt_range.specs.Matched.{IsExtlangRange}
-use Rattle.lt_range.specs.Preferences.{at}
+use Rattle.lt_range.specs.Matched.{AreRangesOf}
 use Rattle.lt_range.specs.Ranges.{RangeParts}
 use Rattle.lt_range.specs.Refusals.{IsRangeRefusal}
 use Rattle.lt_range.specs.declared.accept_faults.AcceptFault.{AcceptFault}
@@ -21,19 +20,27 @@ use Rattle.lt_range.specs.declared.preferences.Preference.{Preference}
 use Rattle.lt_range.specs.declared.refusals.RangeRefusal.{RangeRefusal}
 use Rattle.lt_range.specs.declared.refusals.RangeRefusal.TheVariants as refusals
 
--- if the preferences of the first n elements are followed by that of the next, they are those of the first n + 1
-pub preference_next : (R : List EntryParts) (elements : List ElementParts) (n : ℕ) (all : List Preference) (p
-    : Preference) → ArePreferencesOf R elements n all
-    → IsPreferenceOf R (element_at_place elements n) p → ArePreferencesOf R elements (n + 1) (all ++ p ∷ [])
-preference_next R elements n all p h k =
-    let none : Preference = record { range = record { wild = false; named = [] }; weight = 0 } in
-    record {
-      counted = length-append all (p ∷ []) ∙ ap (λ (i : ℕ). i + 1) h.counted;
-      each = below_more (λ (i : ℕ). IsPreferenceOf R (element_at_place elements i) (at (all ++ p ∷ []) i)) n
-          (λ i l. subst (λ (x : Preference). IsPreferenceOf R (element_at_place elements i) x)
-          (sym (get_or_append_left all (p ∷ []) none i (omega (arith, l, h.counted)))) (h.each i l))
-          (subst (λ (x : Preference). IsPreferenceOf R (element_at_place elements n) x) (sym (get_or_push all p none n h.counted)) k);
-    }
+-- `all` are the preferences so far, of the first `n` elements: with those of the other elements they are those of all
+abbrev pub AsksOn : List EntryParts → List ElementParts → ℕ → List Preference → Type 0
+AsksOn R elements n all = (more : List Preference) → ArePreferences R n (drop n elements) more → ArePreferences R 0 elements (all ++ more)
+
+-- the preferences of the next element are added
+pub preferences_next : (R : List EntryParts) (elements : List ElementParts) (n : ℕ) (all here : List Preference)
+    → n < length elements → ArePreferencesOf R n (element_at_place elements n) here → AsksOn R elements n all
+    → AsksOn R elements (n + 1) (all ++ here)
+preferences_next R elements n all here within h go = λ more rest.
+    let none : ElementParts = record { range = []; weight = 0 } in
+    let step : ArePreferences R n (element_at_place elements n ∷ drop (n + 1) elements) (here ++ more) = (here, more, refl, h, rest) in
+    subst (λ (l : List Preference). ArePreferences R 0 elements l) (sym (append_assoc all here more))
+    (go (here ++ more) (subst (λ (l : List ElementParts). ArePreferences R n l (here ++ more)) (sym (drop_more elements n none within)) step))
+
+-- past the last element, the preferences are those of all
+pub preferences_end : (R : List EntryParts) (elements : List ElementParts) (n : ℕ) (all : List Preference)
+    → length elements ≤ n → AsksOn R elements n all → ArePreferences R 0 elements all
+preferences_end R elements n all past go =
+    let none : drop n elements ≡ [] = drop_of_length-le elements past in
+    subst (λ (l : List Preference). ArePreferences R 0 elements l) (append-nil all)
+    (go [] (subst (λ (l : List ElementParts). ArePreferences R n l []) (sym none) refl))
 
 -- the element at a place, as contracts see it, is the one at that place of the elements as contracts see them
 pub part_at : (elements : List WeightedRange) (n : ℕ) (d : WeightedRange) → n < length elements
@@ -55,16 +62,28 @@ pub memory_at : (R : List EntryParts) (elements : List WeightedRange) (n : ℕ) 
     → IsElementRefusal R (map parts_of elements) refusals.OutOfMemory
 memory_at R elements n within = record { place = n; within = omega (arith, within, length-map elements parts_of); refused = tt }
 
--- a preference with the range by which the text of an element matches, and with its weight, is that of the element
-pub preference_at : (R : List EntryParts) (elements : List WeightedRange) (n : ℕ) (d : WeightedRange) (range
-    : RangeParts) → n < length elements
-    → IsExtlangRange R (get_or elements n d).range.now range
-    → IsPreferenceOf R (element_at_place (map parts_of elements) n) (record
-    { range = range; weight = (get_or elements n d).weight })
-preference_at R elements n d range within h = record {
-  range = subst (λ (e : ElementParts). IsExtlangRange R e.range range) (part_at elements n d within) h;
-  weight = ap (λ (e : ElementParts). e.weight) (part_at elements n d within);
+-- the ranges by which the text of an element matches, with its weight, are its preferences
+pub preferences_at : (R : List EntryParts) (elements : List WeightedRange) (n : ℕ) (d : WeightedRange) (ranges
+    : List RangeParts) → n < length elements
+    → AreRangesOf R (get_or elements n d).range.now ranges
+    → ArePreferencesOf R n (element_at_place (map parts_of elements) n) (map (weighted (get_or elements n d).weight n) ranges)
+preferences_at R elements n d ranges within h = record {
+  ranges = ranges;
+  are_ranges = subst (λ (e : ElementParts). AreRangesOf R e.range ranges) (part_at elements n d within) h;
+  are = ap (λ (e : ElementParts). map (weighted e.weight n) ranges) (part_at elements n d within);
 }
+
+-- if the ranges of the next element are moved after `all`, with its weight and its place, its preferences are added
+pub preferences_moved : (R : List EntryParts) (elements : List WeightedRange) (n : ℕ) (d : WeightedRange) (all new
+    : List Preference) (left ranges : List RangeParts) → n < length elements
+    → AreRangesOf R (get_or elements n d).range.now ranges → left ≡ ranges
+    → new ≡ all ++ map (weighted (get_or elements n d).weight n) left
+    → AsksOn R (map parts_of elements) n all → AsksOn R (map parts_of elements) (n + 1) new
+preferences_moved R elements n d all new left ranges within h is moved go =
+    subst (λ (l : List Preference). AsksOn R (map parts_of elements) (n + 1) l)
+    (sym (moved ∙ ap (λ (l : List RangeParts). all ++ map (weighted (get_or elements n d).weight n) l) is))
+    (preferences_next R (map parts_of elements) n all _ (omega (arith, within, length-map elements parts_of))
+    (preferences_at R elements n d ranges within h) go)
 
 -- the fault of a header, of this kind, is why it gives no preferences
 by_kind : (R : List EntryParts) (header : List ℕ) (fault : AcceptFault) (kind : AcceptFaultKind) → fault.kind ≡ kind

@@ -14,6 +14,7 @@ pub mod WeightLemmas
 pub mod HeaderLaws
 pub mod HeaderLemmas
 pub mod PriorityLemmas
+pub mod SpellingLemmas
 pub mod MatchLaws
 pub mod PlainRanges
 pub mod StayingLemmas

@@ -1,8 +1,8 @@
 -- A text that is no valid tag matches by the range that it is, with its first subtag in its extlang form, if this by
--- itself is a tag that has one. `extlang_range` and `known_subtags` need this: when a text is no valid tag, and which
+-- itself is a tag that has one. `append_ranges` and `known_subtags` need this: when a text is no valid tag, and which
 -- range or refusal follows.
-use Rattle.std.proofs.Common.{◌≡◌, ◌∙◌, ◌∷◌, ◌++◌, false, ℕ, inl, inr, List, Ok, Err, IfOk, IfErr, refl, sym, subst}
-use Rattle.std.specs.Prelude.{Result}
+use Rattle.std.proofs.Common.{◌≡◌, ◌∙◌, ◌∷◌, ◌++◌, false, ℕ, inl, inr, List, [], Ok, Err, IfOk, IfErr, refl, sym, subst}
+use Rattle.std.specs.Prelude.{OnOk, Result}
 use Rattle.lt_tag.specs.Parts.{TagForm}
 use Rattle.lt_tag.proofs.OneTagLemmas.{one_tag_of_text}
 use Rattle.lt_tag.specs.declared.faults.TagFault.{TagFault}
@@ -16,7 +16,8 @@ use Rattle.lt_canon.specs.declared.refusals.TextRefusal.{TextRefusal}
 use Rattle.lt_canon.specs.declared.refusals.TextRefusal.TheVariants as texts
 use Rattle.lt_canon.proofs.CanonicalForms.{text_repeats_answered}
 use Rattle.lt_range.specs.Ranges.{RangeParts, range_of_tag}
-use Rattle.lt_range.specs.Matched.{HasNoSubtags, HasSubtags, IsExtlangRange, IsNoValidTag, IsRangeOfText, MatchesAs}
+use Rattle.lt_range.specs.Matched.{AreRangesOf, HasNoSubtags, HasSubtags, IsNoValidTag, IsRangeOfText, MatchesAs}
+use Rattle.lt_range.specs.Spellings.{first_of, Spellings}
 use Rattle.lt_range.specs.Refusals.{IsRangeRefusal, IsPlainRefusal}
 use Rattle.lt_range.specs.declared.refusals.RangeRefusal.{RangeRefusal}
 use Rattle.lt_range.specs.declared.refusals.RangeRefusal.TheVariants as refusals
@@ -51,30 +52,31 @@ module _ (R : List EntryParts) (text : List ℕ) where
       → (kind ≡ texts.OutOfMemory → ⊥) → HasNoSubtags R text
   none_of refusal kind is owed other = refused_none refusal owed (λ e. other (sym is ∙ e))
 
-  -- if `r` is the range of a text that is no valid tag, the text matches by it
-  pub plain_ok : (r : Result RangeParts RangeRefusal) → IsNoValidTag R text
-      → IfOk r (λ range. IsRangeOfText R text range) → IfOk r (λ range. IsExtlangRange R text range)
-  plain_ok (Ok range) n h = inr (n, h)
-  plain_ok (Err refusal) n h = tt
+  -- if the range of a text that is no valid tag was added to `old`, the text matches by what was added
+  pub plain_ok : (r : Result (Unit {0}) RangeRefusal) (old new : List RangeParts) → IsNoValidTag R text
+      → OnOk r ((range : RangeParts) × (new ≡ old ++ range ∷ []) × IsRangeOfText R text range)
+      → OnOk r ((more : List RangeParts) × (new ≡ old ++ more) × AreRangesOf R text more)
+  plain_ok (Ok u) old new n h = (h.0 ∷ [], h.1, inr (n, (h.0, refl, h.2)))
+  plain_ok (Err refusal) old new n h = tt
 
   -- if `r` is why a text that is no valid tag is no range, the text is refused so
-  pub plain_err : (r : Result RangeParts RangeRefusal) → IsNoValidTag R text → IfErr r (IsPlainRefusal text)
+  pub plain_err : (r : Result (Unit {0}) RangeRefusal) → IsNoValidTag R text → IfErr r (IsPlainRefusal text)
       → IfErr r (λ refusal. IsRangeRefusal R text refusal)
-  plain_err (Ok range) n h = tt
+  plain_err (Ok u) n h = tt
   plain_err (Err (refusals.NotARange fault)) n h = (n, h)
   plain_err (Err (refusals.ReplacementRepeats v)) n h = absurd h
   plain_err (Err refusals.OutOfMemory) n h = tt
 
--- if the first subtag of a range by itself is a tag that is matched by the subtags `list`, the range with these in its
+-- if the first subtag of a range by itself is a tag with the spellings `lists`, the range with the first of these in its
 -- place is the one that matches
-pub some_as : (R : List EntryParts) (written : RangeParts) (s : List ℕ) (ss list : List (List ℕ)) (r : Result RangeParts
-    OutOfMemory) → written.wild ≡ false → written.named ≡ s ∷ ss
-    → HasSubtags R s list → IfOk r (λ range. range ≡ range_of_tag (list ++ ss))
+pub some_as : (R : List EntryParts) (written : RangeParts) (s : List ℕ) (ss : List (List ℕ)) (lists : Spellings)
+    (r : Result RangeParts OutOfMemory) → written.wild ≡ false → written.named ≡ s ∷ ss
+    → HasSubtags R s lists → IfOk r (λ range. range ≡ range_of_tag (first_of lists ++ ss))
     → IfOk r (λ range. MatchesAs R written.wild written.named range)
-some_as R written s ss list (Ok range) w n has is =
-    let here : MatchesAs R false (s ∷ ss) range = inl (list, has, is) in
+some_as R written s ss lists (Ok range) w n has is =
+    let here : MatchesAs R false (s ∷ ss) range = inl (lists, has, is) in
     rw (w, n) here
-some_as R written s ss list (Err e) w n has is = tt
+some_as R written s ss lists (Err e) w n has is = tt
 
 -- if the first subtag of a range by itself is no such tag, the range matches as it is
 pub none_as : (R : List EntryParts) (written : RangeParts) (s : List ℕ) (ss : List (List ℕ)) → written.wild ≡ false

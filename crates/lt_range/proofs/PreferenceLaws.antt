@@ -4,6 +4,7 @@ use Rattle.std.proofs.lemmas.Bool.Decides.{leb_tells}
 use Rattle.lt_range.specs.Ranges.{RangeParts}
 use Rattle.lt_range.specs.Preferences.{at, BestIsDetermined, FallsAt, FirstServes, IsBest, MaySelect, Serves, ServesBy}
 use Rattle.lt_range.specs.Preferences.{ServesInTurn, tag_length_at}
+use Rattle.lt_range.specs.Spellings.{Spellings}
 use Rattle.lt_range.specs.declared.preferences.Preference.{Preference}
 use Rattle.lt_range.proofs.PreferenceLemmas.{one_longest}
 
@@ -17,7 +18,7 @@ one_place p q h k = elim (leb_tells p q) [
   | inr l ↦ absurd (k (omega (arith, l.1)))
 ]
 
-module _ (all : List Preference) (tags : List (List (List ℕ))) where
+module _ (all : List Preference) (tags : List Spellings) where
   -- a range selects one tag first at most
   one_selected : (range : RangeParts) (p q : Option ℕ) → MaySelect all range tags p → MaySelect all range tags q → p ≡ q
   one_selected range None None h k = refl

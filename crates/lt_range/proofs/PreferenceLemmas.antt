@@ -1,7 +1,7 @@
 -- The loops that look for the longest range that matches a tag, which decides its weight, or for the longest tag, and
 -- the loop of `filter_accepted` over the ranges: if what they found is right up to a place, it is with the next one
 -- too.
-use Rattle.std.proofs.Common.{false, ◌≡◌, ◌<◌, ◌≤◌, ◌+◌, ◌++◌, ◌∷◌, ◌∙◌, ℕ, List, [], Option, Some, None, inl, inr}
+use Rattle.std.proofs.Common.{false, ◌≡◌, ◌↔◌, ◌<◌, ◌≤◌, ◌+◌, ◌++◌, ◌∷◌, ◌∙◌, ℕ, List, [], Option, Some, None, inl, inr}
 use Rattle.std.proofs.Common.{length, drop, sym, ap, refl, subst, arith}
 use Rattle.std.proofs.lemmas.List.{append_assoc, append-nil, drop_more}
 use Rattle.std.proofs.Math.ListN.{drop_of_length-le}
@@ -9,7 +9,8 @@ use Rattle.std.proofs.lemmas.Bool.Decides.{leb_tells}
 use borrow.Author.Count.{below_more}
 use Rattle.lt_range.specs.Filtering.{ArePlaces}
 use Rattle.lt_range.specs.Preferences.{at, length_at, IsLonger, IsLongestOf, Matched, MayBeLongest, Accepts}
-use Rattle.lt_range.specs.Preferences.{AreAcceptedFrom, AreAccepted, Decides, NoneDecides, HasWeight, IsRefused}
+use Rattle.lt_range.specs.Preferences.{AreAcceptedFrom, AreAccepted, Decides, MayDecide, NoneDecides, HasWeight, IsRefused}
+use Rattle.lt_range.specs.Spellings.{Spellings}
 use Rattle.lt_range.specs.declared.preferences.Preference.{Preference}
 
 module _ (P : ℕ → Type 0) (long : ℕ → ℕ) where
@@ -51,10 +52,15 @@ module _ (P : ℕ → Type 0) (long : ℕ → ℕ) where
     first = found.first;
   }
 
-module _ (all : List Preference) (tag : List (List ℕ)) where
+module _ (all : List Preference) (tag : Spellings) where
   -- one range decides the weight of a tag at most
   pub one_decides : (p q : ℕ) → Decides all tag p → Decides all tag q → p ≡ q
   one_decides p q h k = one_longest (Matched all tag) (length_at all) (length all) p q h k
+
+  -- the longest of all ranges that match a tag decides its weight
+  pub longest_decides : (found : Option ℕ) → MayBeLongest (Matched all tag) (length_at all) (length all) found → MayDecide all tag found
+  longest_decides None h = h
+  longest_decides (Some place) h = h
 
   -- a tag that is refused has the weight 0
   pub refused_is_zero : (weight : ℕ) → HasWeight all tag (Some weight) → IsRefused all tag → weight ≡ 0
@@ -66,10 +72,19 @@ module _ (all : List Preference) (tag : List (List ℕ)) where
 
   -- a tag that no range matches is not accepted
   pub none_accepts : (place : ℕ) → NoneDecides all tag → Accepts all place tag → ⊥
-  none_accepts place none h = none place h.decides.within h.decides.holds
+  none_accepts place none h = none h.index h.decides.within h.decides.holds
+
+  -- a range that decides the weight of a tag accepts it at its place exactly if that weight is not 0
+  pub accepts_by : (found place : ℕ) → Decides all tag found
+      → ((at all found).place ≡ place) × (0 < (at all found).weight) ↔ Accepts all place tag
+  accepts_by found place h = (
+    λ is. record { index = found; decides = h; of = is.0; weighty = is.1 },
+    λ a. let one : a.index ≡ found = one_decides a.index found a.decides h in
+        (ap (λ (i : ℕ). (at all i).place) (sym one) ∙ a.of, subst (λ (i : ℕ). 0 < (at all i).weight) one a.weighty),
+  )
 
 -- the loop over the ranges, each of which accepts the tags whose weight it decides
-module _ (all : List Preference) (tags : List (List (List ℕ))) where
+module _ (all : List Preference) (tags : List Spellings) where
   -- `found` are the places so far, of the tags that the first `i` ranges accept: with those that the other ranges
   -- accept they are what all accept
   abbrev pub AcceptsOn : ℕ → List ℕ → Type 0
@@ -82,7 +97,7 @@ module _ (all : List Preference) (tags : List (List (List ℕ))) where
       let step : AreAcceptedFrom all i (at all i ∷ drop (i + 1) all) tags (here ++ more) = (here, more, refl, places, h) in
       subst (λ (l : List ℕ). AreAccepted all tags l) (sym (append_assoc found here more))
       (go (here ++ more) (subst (λ (l : List Preference). AreAcceptedFrom all i l tags (here ++ more))
-      (sym (drop_more all i (record { range = record { wild = false; named = [] }; weight = 0 }) within)) step))
+      (sym (drop_more all i (record { range = record { wild = false; named = [] }; weight = 0; place = 0 }) within)) step))
 
   -- past the last range, the places are what all accept
   pub accepts_end : (i : ℕ) (found : List ℕ) → length all ≤ i → AcceptsOn i found → AreAccepted all tags found

@@ -9,6 +9,7 @@ use borrow.Author.Count.{below_more}
 use Rattle.lt_range.specs.Lookup.{tag_at}
 use Rattle.lt_range.specs.Preferences.{at, AreDeciding, MayDecide, NoneOf, IsRefused, Serves, ServesAt, ServesBy}
 use Rattle.lt_range.specs.Preferences.{ServesInTurn, TakesTurn, ReachesAt, IsFirstServing}
+use Rattle.lt_range.specs.Spellings.{Spellings}
 use Rattle.lt_range.specs.declared.preferences.Preference.{Preference}
 
 -- two truth values are equal, or not
@@ -28,7 +29,7 @@ turn_tells wild p = elim (leb_tells p.weight 0) [
   ]
 ]
 
-module _ (wild : Bool) (all : List Preference) (tags : List (List (List ℕ))) where
+module _ (wild : Bool) (all : List Preference) (tags : List Spellings) where
   -- if the next tag, at the place n, is not refused, and `index` is the first range that reaches it, and comes before
   -- `first`, the first range that serves a tag so far, then `index` is the first range that does
   pub next_serves : (n first index : ℕ) → IsFirstServing wild all tags n first → index < first
@@ -86,7 +87,7 @@ module _ (wild : Bool) (all : List Preference) (tags : List (List (List ℕ))) w
     before = none_before first found;
   }
 
-module _ (all : List Preference) (tags : List (List (List ℕ))) where
+module _ (all : List Preference) (tags : List Spellings) where
   -- if `found` has the deciding ranges of the first n tags, and `o` is that of the next tag, or None, then `found` with
   -- `o` at its end has those of the first n + 1
   pub deciding_next : (n : ℕ) (found : List (Option ℕ)) (o : Option ℕ) → AreDeciding all tags n found

@@ -13,9 +13,9 @@ use Rattle.lt_registry.specs.declared.entries.Kind.TheVariants as kinds
 use Rattle.lt_check.specs.Conditions.{IsChecked}
 use Rattle.lt_check.specs.Staying.{IsStaying}
 use Rattle.lt_canon.specs.ExtlangForm.{prefix_of}
-use Rattle.lt_canon.proofs.CanonicalForms.{extlang_answer, prefixless_extlang}
+use Rattle.lt_canon.proofs.CanonicalForms.{prefixless_extlang}
 use Rattle.lt_canon.proofs.StayingTags.{stays_canonical}
-use Rattle.lt_range.specs.Matched.{HasSubtags}
+use Rattle.lt_range.specs.OtherSpellings.{StaysAs}
 
 -- a language without an entry as an extlang has no Prefix
 no_prefix : (found : Option EntryParts) → is_some found ≡ false
@@ -30,20 +30,18 @@ module _ (R : List EntryParts) (text : List ℕ) (stay : IsStaying R text) where
       subst (λ (ss : List (List ℕ)). HasList (conventional ss) × (list_of (conventional ss) ≡ ss)) stay.1.read.spelled
       (law (core_alone stay.0) stay.1.read.tag)
 
-  -- if its language is registered as no extlang, the text is matched by its own subtags
-  pub stays_has : IsChecked R
+  -- if its language is registered as no extlang, the text stays as it is
+  pub stays_as : IsChecked R
       → ((s : List ℕ) (ss : List (List ℕ)) → list_of text ≡ s ∷ ss → is_registered R kinds.Extlang s ≡ false)
-      → HasSubtags R text (list_of text)
-  stays_has C none =
+      → StaysAs R text (list_of text)
+  stays_as C none =
       let c = stay.0 in
       let t = core_alone c in
       let no : is_registered R kinds.Extlang c.language ≡ false = none c.language _ (sym stay.1.read.spelled) in
       record {
         tag = t;
         read = stay.1.read;
-        holds = record {
-          form = t;
-          is_form = extlang_answer R C t t t (stays_canonical R text c stay.1 C) (prefixless_extlang R t c refl (no_prefix _ no));
-          spelled = sym stay.1.read.spelled;
-        };
+        canonical = stays_canonical R text c stay.1 C;
+        form = prefixless_extlang R t c refl (no_prefix _ no);
+        spelled = sym stay.1.read.spelled;
       }

@@ -2,6 +2,7 @@
 -- which tag they serve, and the laws of matching by extlang forms (RFC 5646, 4.5).
 pub mod Ranges
 pub mod Reading
+pub mod Spellings
 pub mod Matching
 pub mod Filtering
 pub mod Lookup
@@ -15,6 +16,7 @@ pub mod Headers
 pub mod Priority
 pub mod AcceptNames
 pub mod Matched
+pub mod OtherSpellings
 pub mod Refusals
 pub mod HeaderRefusals
 pub mod Asked

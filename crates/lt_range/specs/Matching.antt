@@ -4,6 +4,8 @@ use Rattle.std.specs.Prelude.{ℕ, ◌≡◌, ◌<◌, ◌⊎◌, ◌-◌, ◌==
 use Rattle.std.specs.List.{list_all, slice_get, AllByRecursion}
 use Rattle.std.specs.Option.{option_map_or}
 use Rattle.lt_range.specs.Ranges.{RangeParts}
+use Rattle.lt_range.specs.declared.matching.Scheme.{Scheme}
+use Rattle.lt_range.specs.declared.matching.Scheme.TheVariants as schemes
 
 -- the list begins with the subtags of `front` (RFC 4647, 3.3.1)
 abbrev pub BeginsWith : List (List ℕ) → List (List ℕ) → Type 0
@@ -71,3 +73,10 @@ pub record IsLeft (range left : List (List ℕ)) : Type 0 where
 pub record FallsBackTo (range : RangeParts) (tag : List (List ℕ)) : Type 0 where
   pub named : range.wild ≡ false
   pub left : IsLeft range.named tag
+
+-- a range matches a list of subtags by a scheme; by lookup, if it can be cut from its end until it is the list (RFC
+-- 4647, 3.3.1, 3.3.2 and 3.4)
+abbrev pub MatchesBy : Scheme → RangeParts → List (List ℕ) → Type 0
+MatchesBy schemes.Basic range list = MatchesBasic range list
+MatchesBy schemes.Extended range list = MatchesExtended range list
+MatchesBy schemes.Lookup range list = FallsBackTo range list

@@ -1,16 +1,17 @@
 //! What a header asks for, as preferences.
-ghost use Rattle.std.specs.Prelude.{◌≡◌, ◌++◌, IfErr, IfOk, length, map};
-ghost use Rattle.lt_range.specs.Asked.{ArePreferencesOf, Asks, IsElementRefusal, IsHeaderRefusal};
+ghost use Rattle.std.specs.Prelude.{◌≡◌, ◌++◌, [], IfErr, IfOk, OnOk, map};
+ghost use Rattle.lt_range.specs.Asked.{ArePreferences, Asks, IsElementRefusal, IsHeaderRefusal, weighted};
 ghost use Rattle.lt_range.specs.Elements.{parts_of};
 ghost use Rattle.lt_range.specs.HeaderRefusals.{name_of, no_memory, of_accept_fault, of_range_refusal};
 
 use crate::accept_faults::{AcceptFault, AcceptFaultKind};
 use crate::elements::WeightedRange;
 use crate::headers::AcceptLanguage;
-use crate::matched::extlang_range;
+use crate::matched::append_ranges;
+use crate::matching_table::MatchingTable;
+use crate::ranges::LanguageRange;
 use crate::preferences::Preference;
 use crate::refusals::RangeRefusal;
-use lt_check::Checked;
 use lt_registry::Lookup;
 use lt_tag::OutOfMemory;
 use std::alloc::Global;
@@ -89,42 +90,63 @@ fn all_elements(accept: AcceptLanguage<'_>) -> Result<Vec<WeightedRange<'_>>, Ou
     Ok(acceptable)
 }
 
-/// The preferences of elements, in their order. Refused at the first range that `extlang_range` refuses, with its
+/// Moves ranges to the end of `all`, each with the same weight and place. The only refusal is running out of memory.
+fn append_weighted(
+    ranges: &mut Vec<LanguageRange>,
+    weight: u16,
+    place: usize,
+    all: &mut Vec<Preference>,
+) -> Result<(), OutOfMemory>
+    ensures moved { OnOk result (all.new.items ≡ all.old.items ++ map (weighted weight place) ranges.old.items) }
+    ensures empty { OnOk result (ranges.new.items ≡ []) }
+{
+    while !ranges.is_empty() {
+        let range = ranges.remove(0);
+        all.push(Preference {
+            range,
+            weight,
+            place,
+        })?;
+    }
+    Ok(())
+}
+
+/// The preferences of elements, in their order. Refused at the first range that `append_ranges` refuses, with its
 /// refusal, or where memory runs out.
 fn preferences_of<L: Lookup>(
     alloc: Global,
-    checked: &Checked<L>,
+    table: &MatchingTable<L>,
     elements: &[WeightedRange<'_>],
 ) -> Result<Vec<Preference>, RangeRefusal>
-    ensures preferences { IfOk result (λ all. ArePreferencesOf (L.listed checked.now) (map parts_of elements.now) (length elements.now) all.items) }
-    ensures refusal { IfErr result (λ refusal. IsElementRefusal (L.listed checked.now) (map parts_of elements.now) refusal) }
+    ensures preferences { IfOk result (λ all. ArePreferences (L.listed table.now) 0 (map parts_of elements.now) all.items) }
+    ensures refusal { IfErr result (λ refusal. IsElementRefusal (L.listed table.now) (map parts_of elements.now) refusal) }
 {
     let mut all = Vec::new(alloc);
+    let mut ranges = Vec::new(alloc);
     for place in 0..elements.len() {
         let element = &elements[place];
-        let range = extlang_range(alloc, checked, element.range)?;
-        let weight = element.weight;
-        all.push(Preference { range, weight })?;
+        append_ranges(alloc, table, element.range, &mut ranges)?;
+        append_weighted(&mut ranges, element.weight, place, &mut all)?;
     }
     Ok(all)
 }
 
-/// What an Accept-Language header asks for (RFC 9110, 12.5.4): each of its ranges, as [`extlang_range`] gives it, with
-/// its weight. Those that are acceptable come first, from the greatest weight to the least, and then the others, in the
+/// What an Accept-Language header asks for (RFC 9110, 12.5.4): the ranges that [`append_ranges`] gives for each of its
+/// ranges, with its weight. Those that are acceptable come first, from the greatest weight to the least, and then the others, in the
 /// order of the header.
 ///
 /// - `NotAHeader`, with the fault that `AcceptLanguage::read` answers, exactly where the text is no header.
-/// - `BadRange`, with the refusal of `extlang_range`, where that refuses one of the ranges.
+/// - `BadRange`, with the refusal of `append_ranges`, where that refuses one of the ranges.
 /// - `OutOfMemory` where memory runs out.
 pub fn header_preferences<L: Lookup>(
     alloc: Global,
-    checked: &Checked<L>,
+    table: &MatchingTable<L>,
     header: &[u8],
 ) -> Result<Vec<Preference>, HeaderRefusal>
-    ensures preferences { IfOk result (λ all. Asks (L.listed checked.now) header.now all.items) }
-    ensures refusal { IfErr result (λ refusal. IsHeaderRefusal (L.listed checked.now) header.now refusal) }
+    ensures preferences { IfOk result (λ all. Asks (L.listed table.now) header.now all.items) }
+    ensures refusal { IfErr result (λ refusal. IsHeaderRefusal (L.listed table.now) header.now refusal) }
 {
     let accept = AcceptLanguage::read(alloc, header)?;
     let elements = all_elements(accept)?;
-    Ok(preferences_of(alloc, checked, &elements)?)
+    Ok(preferences_of(alloc, table, &elements)?)
 }

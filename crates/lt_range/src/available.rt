@@ -6,10 +6,10 @@ ghost use Rattle.lt_range.specs.Matched.{HasSubtags};
 ghost use Rattle.lt_range.specs.Preferences.{AreAccepted, IsBest};
 
 use crate::matched::subtags_of_text;
+use crate::matching_table::MatchingTable;
 use crate::preferences::{self, Preference};
 use crate::tag_subtags::TagSubtags;
 use lt_canon::TextRefusal;
-use lt_check::Checked;
 use lt_registry::Lookup;
 use lt_tag::OutOfMemory;
 use std::alloc::{AllocFailed, Global};
@@ -22,11 +22,12 @@ pub struct Available {
     tags: Vec<TagSubtags>,
 }
 
-// A contract sees the lists of subtags by which ranges match the tags.
+// A contract sees the spellings by which ranges match the tags.
 impl Model for Available {
-    ghost use Rattle.std.specs.Prelude.{ℕ, List};
+    ghost use Rattle.std.specs.Prelude.{List};
+    ghost use Rattle.lt_range.specs.Spellings.{Spellings};
 
-    ghost Value = { List (List (List ℕ)) };
+    ghost Value = { List Spellings };
 
     ghost view = { λ a. a.tags.items };
 }
@@ -52,19 +53,19 @@ impl From<AllocFailed<TagSubtags>> for AvailableRefusal {
     }
 }
 
-/// Reads a text as a tag, and gives the subtags by which this tag is matched. Refused if `subtags_of_text` refuses the
+/// Reads a text as a tag, and gives the spellings by which this tag is matched. Refused if `subtags_of_text` refuses the
 /// text, with its refusal and `place`, the number of the text.
 fn numbered_subtags<L: Lookup>(
     alloc: Global,
-    checked: &Checked<L>,
+    table: &MatchingTable<L>,
     text: &[u8],
     place: usize,
 ) -> Result<TagSubtags, AvailableRefusal>
-    ensures subtags { IfOk result (λ subtags. HasSubtags (L.listed checked.now) text.now subtags) }
+    ensures subtags { IfOk result (λ subtags. HasSubtags (L.listed table.now) text.now subtags) }
     ensures numbered { IfErr result (λ refused. refused.place ≡ place) }
-    ensures refusal { IfErr result (λ refused. IsTextRefusal (L.listed checked.now) text.now refused.refusal) }
+    ensures refusal { IfErr result (λ refused. IsTextRefusal (L.listed table.now) text.now refused.refusal) }
 {
-    match subtags_of_text(alloc, checked, text) {
+    match subtags_of_text(alloc, table, text) {
         Ok(subtags) => Ok(subtags),
         Err(refusal) => Err(AvailableRefusal { refusal, place }),
     }
@@ -75,15 +76,15 @@ impl Available {
     /// its refusal and the number of the text, from 1, or where memory runs out.
     pub fn of_texts<L: Lookup>(
         alloc: Global,
-        checked: &Checked<L>,
+        table: &MatchingTable<L>,
         texts: &[&[u8]],
     ) -> Result<Available, AvailableRefusal>
-        ensures available { IfOk result (λ lists. AreAvailable (L.listed checked.now) (map (λ text. text.now) texts.now) (length texts.now) lists) }
-        ensures refusal { IfErr result (IsAvailableRefusal (L.listed checked.now) (map (λ text. text.now) texts.now)) }
+        ensures available { IfOk result (λ available. AreAvailable (L.listed table.now) (map (λ text. text.now) texts.now) (length texts.now) available) }
+        ensures refusal { IfErr result (IsAvailableRefusal (L.listed table.now) (map (λ text. text.now) texts.now)) }
     {
         let mut tags = Vec::new(alloc);
         for place in 0..texts.len() {
-            let subtags = numbered_subtags(alloc, checked, texts[place], place + 1)?;
+            let subtags = numbered_subtags(alloc, table, texts[place], place + 1)?;
             tags.push(subtags)?;
         }
         Ok(Available { tags })

@@ -1,38 +1,23 @@
 //! Filtering a list of tags by a language priority list. That is a list of ranges, the first of which counts most.
 //! `ArePlaces P 0 tags found` says that `found` are the places, counted from 0, of the tags of which `P` is true.
 ghost use Rattle.std.specs.Prelude.{◌≡◌, ◌++◌, ◌↔◌, List, ℕ, [], IsTrue, IfOk, OnOk};
-ghost use Rattle.lt_range.specs.Matching.{MatchesBasic, MatchesExtended};
-ghost use Rattle.lt_range.specs.Filtering.{Matches, ArePlaces, NoneMatches, AreFiltered};
+ghost use Rattle.lt_range.specs.Matching.{MatchesBasic, MatchesBy, MatchesExtended};
+ghost use Rattle.lt_range.specs.Filtering.{ArePlaces, NoneMatches, AreFiltered};
+ghost use Rattle.lt_range.specs.Spellings.{MatchesSome};
 
+use crate::matching::Scheme;
 use crate::ranges::LanguageRange;
 use crate::tag_subtags::TagSubtags;
 use lt_tag::OutOfMemory;
 use std::alloc::Global;
 
-/// The two schemes of filtering.
-#[derive(Clone, Copy)]
-enum Scheme {
-    Basic,
-    Extended,
-}
-
 impl Scheme {
-    /// Whether a range matches a tag by the scheme.
-    fn matches(self, range: &LanguageRange, tag: &TagSubtags) -> bool
-        ensures { IsTrue result ↔ Matches self range.now tag.now }
-    {
-        match self {
-            Scheme::Basic => range.matches_basic(tag),
-            Scheme::Extended => range.matches_extended(tag),
-        }
-    }
-
     /// Whether none of the ranges matches a tag by the scheme.
     fn none_matches(self, ranges: &[LanguageRange], tag: &TagSubtags) -> bool
-        ensures { IsTrue result ↔ NoneMatches (Matches self) ranges.now tag.now }
+        ensures { IsTrue result ↔ NoneMatches (MatchesSome (MatchesBy self)) ranges.now tag.now }
     {
         for range in ranges {
-            if self.matches(range, tag) {
+            if range.matches(self, tag) {
                 return false;
             }
         }
@@ -48,10 +33,10 @@ impl Scheme {
         range: &LanguageRange,
         tags: &[TagSubtags],
     ) -> Result<(), OutOfMemory>
-        ensures { OnOk result ((found : List ℕ) × (places.new.items ≡ places.old.items ++ found) × ArePlaces (λ tag. Matches self range.now tag × NoneMatches (Matches self) before.now tag) 0 tags.now found) }
+        ensures { OnOk result ((found : List ℕ) × (places.new.items ≡ places.old.items ++ found) × ArePlaces (λ tag. MatchesSome (MatchesBy self) range.now tag × NoneMatches (MatchesSome (MatchesBy self)) before.now tag) 0 tags.now found) }
     {
         for (place, tag) in tags.iter().enumerate() {
-            if self.matches(range, tag) && self.none_matches(before, tag) {
+            if range.matches(self, tag) && self.none_matches(before, tag) {
                 places.push(place)?;
             }
         }
@@ -66,7 +51,7 @@ impl Scheme {
         ranges: &[LanguageRange],
         tags: &[TagSubtags],
     ) -> Result<Vec<usize>, OutOfMemory>
-        ensures { IfOk result (λ places. AreFiltered (Matches self) ranges.now tags.now places.items) }
+        ensures { IfOk result (λ places. AreFiltered (MatchesSome (MatchesBy self)) ranges.now tags.now places.items) }
     {
         let mut places = Vec::new(alloc);
         for (index, range) in ranges.iter().enumerate() {
@@ -84,7 +69,7 @@ pub fn filter_basic(
     ranges: &[LanguageRange],
     tags: &[TagSubtags],
 ) -> Result<Vec<usize>, OutOfMemory>
-    ensures { IfOk result (λ places. AreFiltered MatchesBasic ranges.now tags.now places.items) }
+    ensures { IfOk result (λ places. AreFiltered (MatchesSome MatchesBasic) ranges.now tags.now places.items) }
 {
     Scheme::Basic.filter(alloc, ranges, tags)
 }
@@ -97,7 +82,7 @@ pub fn filter_extended(
     ranges: &[LanguageRange],
     tags: &[TagSubtags],
 ) -> Result<Vec<usize>, OutOfMemory>
-    ensures { IfOk result (λ places. AreFiltered MatchesExtended ranges.now tags.now places.items) }
+    ensures { IfOk result (λ places. AreFiltered (MatchesSome MatchesExtended) ranges.now tags.now places.items) }
 {
     Scheme::Extended.filter(alloc, ranges, tags)
 }

@@ -43,7 +43,7 @@ pub fn equivalent_ranges_match_alike()
     ensures { (R : List EntryParts) → IsChecked R → EquivalentRangesMatchAlike R }
 {}
 
-/// Matching by extlang forms finds no more than spelling explains: if a range that is a valid tag matches a tag, then a
+/// Matching finds no more than spelling explains: if a range that is a valid tag matches a tag, then a
 /// valid tag equivalent to the range matches a valid tag equivalent to the tag, as the two are spelled (RFC 4647, 3).
 #[tactic(auto, using(crate::proofs::MatchLaws::only_as_spelled))]
 pub fn ranges_match_only_as_spelled()
@@ -57,7 +57,7 @@ pub fn equivalent_lists_serve_alike()
     ensures { (R : List EntryParts) → IsChecked R → EquivalentListsServeAlike R }
 {}
 
-/// A tag is matched by one list of subtags at most, and a text matches by one range at most.
+/// The entries determine the spellings by which a tag is matched, and the ranges by which a text matches.
 #[tactic(auto, using(crate::proofs::MatchLaws::determined))]
 pub fn matching_is_determined()
     ensures { (R : List EntryParts) → IsChecked R → MatchingIsDetermined R }

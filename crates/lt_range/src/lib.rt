@@ -1,7 +1,8 @@
 //! Language ranges (RFC 4647) and the Accept-Language header (RFC 9110, 12.5.4): reading them, which tags they match,
-//! and which tag they serve. Ranges and tags are matched by their extlang forms (RFC 5646, 4.5), so that equivalent
-//! tags match the same ranges, equivalent ranges the same tags, and `zh` finds `yue`. A program begins with the crate
-//! `bcp47`, whose `Registry` has these calls as methods.
+//! and which tag they serve. Ranges and tags are matched in their *spellings*: the extlang form (RFC 5646, 4.5), and the
+//! whole tags of records that have the same canonical form. So equivalent tags match the same ranges, equivalent ranges
+//! the same tags, `zh` finds `yue`, and `no` finds `nb`. A program begins with the crate `bcp47`, whose `Registry` has
+//! these calls as methods.
 //!
 //! Words of this crate: a range is *wild* if it begins with `*`, and its other subtags are *named*. It *falls back* to
 //! a tag that lookup by it may find. A *preference* is a range with a weight in thousandths. The longest range that
@@ -23,6 +24,7 @@ pub mod laws;
 mod lookups;
 mod matched;
 mod matching;
+mod matching_table;
 mod preferences;
 mod ranges;
 mod refusals;
@@ -38,7 +40,9 @@ pub use faults::RangeFault;
 pub use filters::{filter_basic, filter_extended};
 pub use headers::AcceptLanguage;
 pub use lookups::lookup;
-pub use matched::{extlang_range, extlang_subtags, known_subtags, subtags_of_text};
+pub use matched::{append_ranges, known_subtags, subtags_of_text, tag_spellings};
+pub use matching::{Scheme, any_matches};
+pub use matching_table::MatchingTable;
 pub use preferences::{Preference, best, filter_accepted, weight_of};
 pub use ranges::LanguageRange;
 pub use refusals::RangeRefusal;

@@ -1,11 +1,13 @@
 //! Whether a language range matches a tag. A *singleton* is a subtag of one letter or digit, which begins an extension
 //! or private use: matching does not pass over it.
 ghost use Rattle.std.specs.Prelude.{◌≡◌, ◌++◌, ◌↔◌, IsTrue, MatchOption};
-ghost use Rattle.lt_range.specs.Matching.{BeginsWith, IsPassedTo, FollowsFirst, MatchesBasic, MatchesExtended, AreInTurn, FallsBackTo};
+ghost use Rattle.lt_range.specs.Matching.{BeginsWith, IsPassedTo, FollowsFirst, MatchesBasic, MatchesBy, MatchesExtended, AreInTurn, FallsBackTo};
 ghost use Rattle.lt_range.specs.Matching as spec;
+ghost use Rattle.lt_range.specs.Matched.{AnyMatches};
+ghost use Rattle.lt_range.specs.Spellings.{MatchesSome};
 
 use crate::ranges::LanguageRange;
-use crate::tag_subtags::TagSubtags;
+use crate::tag_subtags::{SubtagList, TagSubtags};
 use lt_subtag::Subtag;
 
 /// Whether two subtags are equal.
@@ -27,6 +29,16 @@ fn after_front<'a>(list: &'a [Subtag], front: &[Subtag]) -> Option<&'a [Subtag]>
         }
     }
     Some(rest)
+}
+
+/// Whether two lists of subtags are equal.
+pub(crate) fn are_equal(list: &[Subtag], other: &[Subtag]) -> bool
+    ensures { IsTrue result ↔ (list.now ≡ other.now) }
+{
+    match after_front(list, other) {
+        Some(rest) => rest.is_empty(),
+        None => false,
+    }
 }
 
 /// Whether a subtag has more than one letter or digit.
@@ -78,23 +90,31 @@ fn ends_long(list: &[Subtag]) -> bool
     }
 }
 
+/// The schemes of matching.
+#[derive(Clone, Copy, Debug, PartialEq, Eq)]
+pub enum Scheme {
+    /// Basic filtering (RFC 4647, 3.3.1): `de-DE` matches `de-DE-1996`, but not `de-Latn-DE`.
+    Basic,
+    /// Extended filtering (RFC 4647, 3.3.2): `de-DE` matches both.
+    Extended,
+    /// Lookup (RFC 4647, 3.4): `de-DE-1996` finds `de-DE` and `de`.
+    Lookup,
+}
+
 impl LanguageRange {
-    /// Whether the range matches a tag by basic filtering (RFC 4647, 3.3.1): the tag equals the range, or begins with
-    /// the range and a hyphen. A range that begins with `*` matches each tag. `de-de` matches `de-DE-1996`, but not
-    /// `de-Latn-DE`.
-    pub fn matches_basic(&self, tag: &TagSubtags) -> bool
-        ensures { IsTrue result ↔ MatchesBasic self.now tag.now }
+    /// Whether a list of subtags begins with those of the range, or the range begins with `*`.
+    fn begins(&self, list: &[Subtag]) -> bool
+        ensures { IsTrue result ↔ MatchesBasic self.now list.now }
     {
-        self.begins_wild() || after_front(tag.subtags(), self.named()).is_some()
+        self.begins_wild() || after_front(list, self.named()).is_some()
     }
 
-    /// Whether the range matches a tag by extended filtering (RFC 4647, 3.3.2): its first subtag is that of the tag or
-    /// `*`, and the others are in the tag in their order, with no singleton among the subtags that are passed over.
-    /// `de-DE` matches `de-Latn-DE`, but neither `de` nor `de-x-DE`.
-    pub fn matches_extended(&self, tag: &TagSubtags) -> bool
-        ensures { IsTrue result ↔ MatchesExtended self.now tag.now }
+    /// Whether a list begins with the first subtag of the range, or the range begins with `*`, and the others follow in
+    /// turn.
+    fn is_in_turn(&self, list: &[Subtag]) -> bool
+        ensures { IsTrue result ↔ MatchesExtended self.now list.now }
     {
-        let Some((first, others)) = tag.subtags().split_first() else {
+        let Some((first, others)) = list.split_first() else {
             return false;
         };
         if self.begins_wild() {
@@ -106,13 +126,10 @@ impl LanguageRange {
         }
     }
 
-    /// Whether lookup by the range finds a tag (RFC 4647, 3.4): the tag is the range, or what is left where the range
-    /// is cut from the end, a singleton with the subtag after it. `zh-Hant-CN-x-ab` finds `zh-Hant-CN` and `zh`, but
-    /// not `zh-Hant-CN-x`; and `*` finds none.
-    pub fn falls_back_to(&self, tag: &TagSubtags) -> bool
-        ensures { IsTrue result ↔ FallsBackTo self.now tag.now }
+    /// Whether a list is what is left of the range when it is cut from its end.
+    fn can_be_cut_to(&self, left: &[Subtag]) -> bool
+        ensures { IsTrue result ↔ FallsBackTo self.now left.now }
     {
-        let left = tag.subtags();
         if self.begins_wild() || left.is_empty() {
             return false;
         }
@@ -121,4 +138,74 @@ impl LanguageRange {
             None => false,
         }
     }
+
+    /// Whether the range matches a list of subtags by a scheme.
+    fn matches_list(&self, scheme: Scheme, list: &[Subtag]) -> bool
+        ensures { IsTrue result ↔ MatchesBy scheme self.now list.now }
+    {
+        match scheme {
+            Scheme::Basic => self.begins(list),
+            Scheme::Extended => self.is_in_turn(list),
+            Scheme::Lookup => self.can_be_cut_to(list),
+        }
+    }
+
+    /// Whether the range matches one of these spellings by a scheme.
+    fn matches_one(&self, scheme: Scheme, lists: &[SubtagList]) -> bool
+        ensures { IsTrue result ↔ MatchesSome (MatchesBy scheme) self.now lists.now }
+    {
+        for list in lists {
+            if self.matches_list(scheme, list.subtags()) {
+                return true;
+            }
+        }
+        false
+    }
+
+    /// Whether the range matches a tag by a scheme, in one of the tag's spellings.
+    pub fn matches(&self, scheme: Scheme, tag: &TagSubtags) -> bool
+        ensures { IsTrue result ↔ MatchesSome (MatchesBy scheme) self.now tag.now }
+    {
+        let others = tag.others();
+        self.matches_list(scheme, tag.subtags()) || self.matches_one(scheme, others)
+    }
+
+    /// Whether the range matches a tag by basic filtering (RFC 4647, 3.3.1): a spelling of the tag equals the range, or
+    /// begins with the range and a hyphen. A range that begins with `*` matches each tag. `de-de` matches `de-DE-1996`,
+    /// but not `de-Latn-DE`.
+    pub fn matches_basic(&self, tag: &TagSubtags) -> bool
+        ensures { IsTrue result ↔ MatchesSome MatchesBasic self.now tag.now }
+    {
+        self.matches(Scheme::Basic, tag)
+    }
+
+    /// Whether the range matches a tag by extended filtering (RFC 4647, 3.3.2): its first subtag is that of a spelling of
+    /// the tag or `*`, and the others are in that spelling in their order, with no singleton among the subtags that are
+    /// passed over. `de-DE` matches `de-Latn-DE`, but neither `de` nor `de-x-DE`.
+    pub fn matches_extended(&self, tag: &TagSubtags) -> bool
+        ensures { IsTrue result ↔ MatchesSome MatchesExtended self.now tag.now }
+    {
+        self.matches(Scheme::Extended, tag)
+    }
+
+    /// Whether lookup by the range finds a tag (RFC 4647, 3.4): a spelling of the tag is the range, or what is left where
+    /// the range is cut from the end, a singleton with the subtag after it. `zh-Hant-CN-x-ab` finds `zh-Hant-CN` and
+    /// `zh`, but not `zh-Hant-CN-x`; and `*` finds none.
+    pub fn falls_back_to(&self, tag: &TagSubtags) -> bool
+        ensures { IsTrue result ↔ MatchesSome FallsBackTo self.now tag.now }
+    {
+        self.matches(Scheme::Lookup, tag)
+    }
+}
+
+/// Whether one of the ranges matches a tag by a scheme, in one of the tag's spellings.
+pub fn any_matches(scheme: Scheme, ranges: &[LanguageRange], tag: &TagSubtags) -> bool
+    ensures { IsTrue result ↔ AnyMatches scheme ranges.now tag.now }
+{
+    for range in ranges {
+        if range.matches(scheme, tag) {
+            return true;
+        }
+    }
+    false
 }

@@ -3,6 +3,7 @@
 ghost use Rattle.std.specs.Prelude.{◌≡◌, ◌++◌, ◌↔◌, ◌<◌, ◌≤◌, ℕ, List, IsTrue, IfOk, IfSome, MatchOption, OnOk, length};
 ghost use Rattle.lt_range.specs.Filtering.{ArePlaces};
 ghost use Rattle.lt_range.specs.Preferences as spec;
+ghost use Rattle.lt_range.specs.Spellings.{Spellings};
 
 use crate::ranges::LanguageRange;
 use crate::tag_subtags::TagSubtags;
@@ -16,6 +17,9 @@ pub struct Preference {
     pub range: LanguageRange,
     /// The weight in thousandths, from 0 to 1,000. What a range of weight 0 matches is "not acceptable".
     pub weight: u16,
+    /// The place, counted from 0, of what the reader asked for that the range is a spelling of. It must be less than the
+    /// number of preferences.
+    pub place: usize,
 }
 
 /// Whether the range at a place matches a tag by basic filtering, and is longer than the one at `best`, if there is
@@ -235,22 +239,23 @@ fn all_deciding(
     Ok(found)
 }
 
-/// Whether the range at a place, which must be within the list, accepts a tag: it decides the weight of the tag, which
-/// is not 0. The tag is not looked at: `decided` is the place of the range that decides its weight, None if none does,
-/// and the clause holds for each tag of which that is so.
+/// Whether a range of this place accepts a tag: it decides the weight of the tag, which is not 0. The tag is not looked
+/// at: `decided` is the index of the range that decides its weight, None if none does, and the clause holds for each tag
+/// of which that is so.
+#[tactic(auto, using(crate::proofs::PreferenceLemmas::accepts_by, crate::proofs::PreferenceLemmas::none_accepts))]
 fn accepts(all: &[Preference], decided: Option<usize>, place: usize) -> bool
-    requires { place < length all.now }
-    ensures { (tag : List (List ℕ)) → spec.MayDecide all.now tag decided → IsTrue result ↔ spec.Accepts all.now place tag }
+    requires { IfSome decided (λ found. found < length all.now) }
+    ensures { (tag : Spellings) → spec.MayDecide all.now tag decided → IsTrue result ↔ spec.Accepts all.now place tag }
 {
     match decided {
-        Some(other) => other == place && all[place].weight != 0,
+        Some(found) => all[found].place == place && all[found].weight != 0,
         None => false,
     }
 }
 
-/// Adds the places, counted from 0, of the tags that the range at `index` accepts: it decides their weight, which is
-/// not 0. The index must be within the list, and `decided` must have for each tag the place of the range that decides
-/// its weight. The only refusal is running out of memory.
+/// Adds the places, counted from 0, of the tags that a range of the place `index` accepts: it decides their weight, which
+/// is not 0. `decided` must have for each tag the index of the range that decides its weight. The only refusal is running
+/// out of memory.
 fn append_accepted(
     all: &[Preference],
     decided: &[Option<usize>],
@@ -258,8 +263,7 @@ fn append_accepted(
     tags: &[TagSubtags],
     places: &mut Vec<usize>,
 ) -> Result<(), OutOfMemory>
-    requires index { index < length all.now }
-    requires decided { spec.AreDeciding all.now tags.now (length tags.now) decided.now }
+    requires { spec.AreDeciding all.now tags.now (length tags.now) decided.now }
     ensures { OnOk result ((found : List ℕ) × (places.new.items ≡ places.old.items ++ found) × ArePlaces (spec.Accepts all.now index) 0 tags.now found) }
 {
     for place in 0..tags.len() {
@@ -270,8 +274,8 @@ fn append_accepted(
     Ok(())
 }
 
-/// The places, counted from 0, of the tags whose weight is not 0 (RFC 9110, 12.5.4): for each range in order those
-/// whose weight it decides, in their order. So if the ranges go from the greatest weight to the least, the tags do. The
+/// The places, counted from 0, of the tags whose weight is not 0 (RFC 9110, 12.5.4): for each place of what the reader
+/// asked for, those whose weight a range of this place decides, in their order. So if the ranges go from the greatest weight to the least, the tags do. The
 /// only refusal is running out of memory.
 pub fn filter_accepted(
     alloc: Global,

@@ -3,11 +3,12 @@ ghost use Rattle.std.specs.Prelude.{◌≡◌, ◌++◌, Ok, IfOk, IfErr, OnOk};
 ghost use Rattle.lt_subtag.specs.Shapes as shapes;
 ghost use Rattle.lt_tag.specs.Rest.{pieces_left};
 ghost use Rattle.lt_range.specs.Ranges.{range_of_tag};
+ghost use Rattle.lt_range.specs.Spellings.{first_of};
 ghost use Rattle.lt_range.specs.Reading as reading;
 ghost use Rattle.lt_range.specs.Reading.{range_of, later_pieces, AppendsRead, IsRefused, IsRangeFault};
 
 use crate::faults::RangeFault;
-use crate::tag_subtags::TagSubtags;
+use crate::tag_subtags::{SubtagList, TagSubtags};
 use lt_subtag::Subtag;
 use lt_tag::{OutOfMemory, copy_subtags, cut_piece};
 use std::alloc::Global;
@@ -117,23 +118,33 @@ impl LanguageRange {
         Ok(LanguageRange { wild, named })
     }
 
-    /// The range that a tag is: it has the subtags of the tag (RFC 4647, 2.1).
-    pub fn of_subtags(tag: TagSubtags) -> LanguageRange
-        ensures { result ≡ range_of_tag tag }
+    /// The range of these subtags (RFC 4647, 2.1).
+    pub(crate) fn of_list(list: SubtagList) -> LanguageRange
+        ensures { result ≡ range_of_tag list }
     {
-        let named = tag.into_subtags();
+        let named = list.into_subtags();
         LanguageRange { wild: false, named }
     }
 
-    /// The range that has the subtags of a tag, and others after them. The only refusal is running out of memory.
+    /// The range that a tag is in its first spelling: it has the subtags of that (RFC 4647, 2.1).
+    pub fn of_subtags(tag: TagSubtags) -> LanguageRange
+        ensures { result ≡ range_of_tag (first_of tag) }
+    {
+        let (first, _others) = tag.into_lists();
+        LanguageRange::of_list(first)
+    }
+
+    /// The range that has the subtags of a tag's first spelling, and others after them. The only refusal is running out
+    /// of memory.
     pub(crate) fn of_front(
         alloc: Global,
         tag: TagSubtags,
         others: &[Subtag],
     ) -> Result<LanguageRange, OutOfMemory>
-        ensures { IfOk result (λ range. range ≡ range_of_tag (tag ++ others.now)) }
+        ensures { IfOk result (λ range. range ≡ range_of_tag (first_of tag ++ others.now)) }
     {
-        let mut named = tag.into_subtags();
+        let (first, _others) = tag.into_lists();
+        let mut named = first.into_subtags();
         let mut more = copy_subtags(alloc, others)?;
         named.append(&mut more)?;
         Ok(LanguageRange { wild: false, named })

@@ -31,7 +31,7 @@ use Rattle.lt_answers.specs.Selecting.{SelectsLines}
 use Rattle.lt_answers.specs.Searching.{Finding, SearchesLines}
 use Rattle.lt_answers.specs.Selection.{IsSelected}
 use Rattle.lt_answers.specs.Served.{ServesAmong}
-use Rattle.lt_answers.specs.declared.schemes.Scheme.{Scheme}
+use Rattle.lt_range.specs.declared.matching.Scheme.{Scheme}
 use Rattle.lt_answers.specs.Verifying.{VerifiesLines}
 use Rattle.lt_answers.specs.declared.verdicts.Verdict.{Verdict}
 use Rattle.lt_answers.specs.declared.verdicts.Verdict.TheVariants as verdicts
@@ -132,10 +132,10 @@ pub record Searches {I : Type 0} (Finds : Finding) (input : Stream I) (result : 
 -- (RFC 4647, 3.4)
 abbrev pub MatchesLines : {I O : Type 0} → MatchPlan → Option Scheme → Stream I → Stream O → End → Type 0
 MatchesLines plan (Some scheme) input output result = (end : Result ℕ ToolFault)
-    × SelectsLines (IsSelected plan.checked scheme plan.ranges.items) input.bytes output.bytes
+    × SelectsLines (IsSelected plan.table scheme plan.ranges.items) input.bytes output.bytes
     input.before input.after output.before output.after end × (result ≡ selected end)
 MatchesLines plan None input output result =
-    IsUntouched output × Searches (LooksUp plan.checked plan.ranges.items) input result
+    IsUntouched output × Searches (LooksUp plan.table plan.ranges.items) input result
 
 -- ---- explanations
 

@@ -8,14 +8,14 @@ use Rattle.lt_registry.specs.Parts.{EntryParts}
 use Rattle.lt_range.specs.Ranges.{RangeParts}
 use Rattle.lt_range.specs.Asked.{Asks, IsHeaderRefusal}
 use Rattle.lt_range.specs.HeaderRefusals as of_headers
-use Rattle.lt_range.specs.Matched.{IsExtlangRange}
+use Rattle.lt_range.specs.Matched.{AreRangesOf}
 use Rattle.lt_range.specs.Refusals.{IsRangeRefusal, name_of}
 use Rattle.lt_range.specs.declared.asked.HeaderRefusal.{HeaderRefusal}
 use Rattle.lt_range.specs.declared.asked.HeaderRefusal.TheVariants as header_refusals
 use Rattle.lt_range.specs.declared.preferences.Preference.{Preference}
 use Rattle.lt_range.specs.declared.refusals.RangeRefusal.{RangeRefusal}
-use Rattle.lt_answers.specs.declared.schemes.Scheme.{Scheme}
-use Rattle.lt_answers.specs.declared.schemes.Scheme.TheVariants as schemes
+use Rattle.lt_range.specs.declared.matching.Scheme.{Scheme}
+use Rattle.lt_range.specs.declared.matching.Scheme.TheVariants as schemes
 use Rattle.lt_words.specs.declared.commands.Matching.{Matching}
 use Rattle.lt_words.specs.declared.commands.Matching.TheVariants as matchings
 use Rattle.lt_words.specs.declared.commands.Ranges.{Ranges}
@@ -26,11 +26,11 @@ use Rattle.lt_tool.specs.declared.plans.Plan.{Plan}
 use Rattle.lt_tool.specs.declared.plans.Plan.TheVariants as plans
 use Rattle.lt_tool.specs.declared.ranges.RefusedRange.{RefusedRange}
 
--- `ranges` are those that the texts are read as, one for each, in their order
+-- `ranges` are those by which the texts match, in their order
 abbrev pub AreRanges : List EntryParts → List (List ℕ) → List RangeParts → Type 0
 AreRanges R [] ranges = ranges ≡ []
 AreRanges R (text ∷ texts) ranges =
-    (range : RangeParts) × (more : List RangeParts) × IsExtlangRange R text range × (ranges ≡ range ∷ more)
+    (here : List RangeParts) × (more : List RangeParts) × AreRangesOf R text here × (ranges ≡ here ++ more)
     × AreRanges R texts more
 
 -- The first of the texts that is refused as a range: its number, counted from 1, and why. The texts `before` it are
@@ -63,7 +63,7 @@ IsRangeFault refused fault = ((text : String Global) × (string_bytes text ≡ r
 -- lines are to be matched by these ranges, as the words ask for; or a range is refused
 abbrev pub PlansMatch : Ranges → List EntryParts → Result Plan Fault → Type 0
 PlansMatch ranges R = Gives (λ plan. (read : Vec RangeParts Global) × AreRanges R (map string_bytes ranges.texts.items) read.items
-    × (plan ≡ plans.Match (record { checked = R; scheme = scheme_for ranges.matching; ranges = read })))
+    × (plan ≡ plans.Match (record { table = R; scheme = scheme_for ranges.matching; ranges = read })))
     (λ fault. (refused : RefusedRange) × RefusesRange R (map string_bytes ranges.texts.items) refused
     × IsRangeFault refused fault)
 

@@ -7,7 +7,7 @@ ghost use Rattle.lt_tool.specs.Streams.{stream};
 
 use crate::faults::{Fault, Role};
 use crate::plans::Plan;
-use crate::registries::read_registry;
+use crate::registries::{prepared, read_registry};
 use lt_jar::Device;
 use lt_range::{HeaderRefusal, header_preferences};
 use lt_stream::ToolFault;
@@ -54,8 +54,9 @@ pub(crate) fn plan_serve<'a, F: Read>(
     ensures { ByRegistry (stream F.remaining file.old file.new) (PlansServing header.now) result }
 {
     let checked = read_registry(alloc, Role::Only, file)?;
-    match header_preferences(alloc, &checked, header) {
-        Ok(preferences) => Ok(Plan::Serve(checked, preferences)),
+    let table = prepared(alloc, checked)?;
+    match header_preferences(alloc, &table, header) {
+        Ok(preferences) => Ok(Plan::Serve(table, preferences)),
         Err(refusal) => Err(fault_of(alloc, &refusal)),
     }
 }

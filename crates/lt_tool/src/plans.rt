@@ -12,12 +12,11 @@ use crate::rows::{plan_rows, plan_tags};
 use crate::showing::plan_show;
 use crate::streams::Files;
 use crate::tag_commands::{check, classify, equal, extlang, plan_explain, plan_verify, upgrade};
-use lt_answers::Scheme;
 use lt_canon::Checked;
 use lt_codes::CodeTable;
 use lt_jar::{Device, Jar};
 use lt_lines::LineForm;
-use lt_range::{LanguageRange, Preference};
+use lt_range::{LanguageRange, MatchingTable, Preference, Scheme};
 use lt_registry::SortedTable;
 use lt_rows::Separator;
 use lt_words::{Command, Tags};
@@ -48,7 +47,7 @@ pub(crate) struct LinesPlan {
 #[derive(Drop)]
 pub(crate) struct MatchPlan {
     /// The entries of the registry by which they are matched.
-    pub(crate) checked: Checked<SortedTable>,
+    pub(crate) table: MatchingTable<SortedTable>,
     /// The scheme of filtering (RFC 4647, 3.3). None is lookup (3.4), which gives one line at most.
     pub(crate) scheme: Option<Scheme>,
     /// The ranges.
@@ -65,7 +64,7 @@ pub(crate) enum Plan<'a> {
     /// To match lines.
     Match(MatchPlan),
     /// To print the line of the input that is served for these preferences, by a registry.
-    Serve(Checked<SortedTable>, Vec<Preference>),
+    Serve(MatchingTable<SortedTable>, Vec<Preference>),
     /// To explain this text by a registry.
     Explain(Checked<SortedTable>, &'a [u8]),
     /// To judge the lines of the input as an explanation of this text by a registry.

@@ -1,8 +1,8 @@
 //! The language ranges of a command line: each is read by a registry, or it is refused.
-ghost use Rattle.std.specs.Prelude.{◌≡◌, ◌++◌, ◌∷◌, [], IfErr, IfOk, OnOk, map, string_bytes};
-ghost use Rattle.lt_range.specs.Matched.{IsExtlangRange};
+ghost use Rattle.std.specs.Prelude.{◌≡◌, ◌++◌, List, IfErr, IfOk, OnOk, map, string_bytes};
+ghost use Rattle.lt_range.specs.Matched.{AreRangesOf};
+ghost use Rattle.lt_range.specs.Ranges.{RangeParts};
 ghost use Rattle.lt_range.specs.Refusals.{IsRangeRefusal};
-ghost use Rattle.lt_range.specs.declared.refusals.RangeRefusal.TheVariants.{OutOfMemory};
 ghost use Rattle.lt_tool.specs.Registries.{ByRegistry};
 ghost use Rattle.lt_tool.specs.Selected as spec;
 ghost use Rattle.lt_tool.specs.Selected.{AreRanges, IsRangeFault, PlansMatch, RefusesRange, scheme_for};
@@ -10,11 +10,9 @@ ghost use Rattle.lt_tool.specs.Streams.{stream};
 
 use crate::faults::{Fault, Role};
 use crate::plans::{MatchPlan, Plan};
-use crate::registries::read_registry;
-use lt_answers::Scheme;
-use lt_canon::Checked;
+use crate::registries::{prepared, read_registry};
 use lt_jar::Device;
-use lt_range::{LanguageRange, RangeRefusal, extlang_range};
+use lt_range::{LanguageRange, MatchingTable, RangeRefusal, Scheme, append_ranges};
 use lt_registry::Lookup;
 use lt_stream::ToolFault;
 use lt_words::{Matching, Ranges};
@@ -30,58 +28,39 @@ pub(crate) struct RefusedRange {
     refusal: RangeRefusal,
 }
 
-/// Puts a range after the others. Refused only if memory runs out; the refusal has the range's `number`, counted from
-/// 1.
-fn push_range(
-    ranges: &mut Vec<LanguageRange>,
-    number: usize,
-    range: LanguageRange,
-) -> Result<(), RefusedRange>
-    ensures pushed { OnOk result (ranges.new.items ≡ ranges.old.items ++ range ∷ []) }
-    ensures numbered { IfErr result (λ refused. refused.number ≡ number) }
-    ensures refusal { IfErr result (λ refused. refused.refusal ≡ OutOfMemory) }
-{
-    match ranges.push(range) {
-        Ok(()) => Ok(()),
-        Err(_) => Err(RefusedRange {
-            number,
-            refusal: RangeRefusal::OutOfMemory,
-        }),
-    }
-}
-
-/// The range that a text is read as, or why the text is refused. The refusal has the text's `number`, counted from 1.
-fn read_range<L: Lookup>(
+/// Adds the ranges by which a text matches, or tells why the text is refused. The refusal has the text's `number`,
+/// counted from 1.
+fn add_ranges<L: Lookup>(
     alloc: Global,
-    checked: &Checked<L>,
+    table: &MatchingTable<L>,
     number: usize,
     text: &[u8],
-) -> Result<LanguageRange, RefusedRange>
-    ensures range { IfOk result (λ range. IsExtlangRange (L.listed checked.now) text.now range) }
+    ranges: &mut Vec<LanguageRange>,
+) -> Result<(), RefusedRange>
+    ensures added { OnOk result ((more : List RangeParts) × (ranges.new.items ≡ ranges.old.items ++ more) × AreRangesOf (L.listed table.now) text.now more) }
     ensures numbered { IfErr result (λ refused. refused.number ≡ number) }
-    ensures refusal { IfErr result (λ refused. IsRangeRefusal (L.listed checked.now) text.now refused.refusal) }
+    ensures refusal { IfErr result (λ refused. IsRangeRefusal (L.listed table.now) text.now refused.refusal) }
 {
-    match extlang_range(alloc, checked, text) {
-        Ok(range) => Ok(range),
+    match append_ranges(alloc, table, text, ranges) {
+        Ok(()) => Ok(()),
         Err(refusal) => Err(RefusedRange { number, refusal }),
     }
 }
 
-/// The ranges that the texts are read as; or the number of the first text that is refused, counted from 1, and why.
+/// The ranges by which the texts match; or the number of the first text that is refused, counted from 1, and why.
 fn read_ranges<L: Lookup>(
     alloc: Global,
-    checked: &Checked<L>,
+    table: &MatchingTable<L>,
     texts: &[String],
 ) -> Result<Vec<LanguageRange>, RefusedRange>
-    ensures ranges { IfOk result (λ ranges. AreRanges (L.listed checked.now) (map string_bytes texts.now) ranges.items) }
-    ensures refusal { IfErr result (RefusesRange (L.listed checked.now) (map string_bytes texts.now)) }
+    ensures ranges { IfOk result (λ ranges. AreRanges (L.listed table.now) (map string_bytes texts.now) ranges.items) }
+    ensures refusal { IfErr result (RefusesRange (L.listed table.now) (map string_bytes texts.now)) }
 {
     let mut ranges = Vec::new(alloc);
     let mut number = 0;
     for text in texts {
         number += 1;
-        let range = read_range(alloc, checked, number, text.as_bytes())?;
-        push_range(&mut ranges, number, range)?;
+        add_ranges(alloc, table, number, text.as_bytes(), &mut ranges)?;
     }
     Ok(ranges)
 }
@@ -130,9 +109,10 @@ pub(crate) fn plan_match<'a, F: Read>(
     ensures { ByRegistry (stream F.remaining file.old file.new) (PlansMatch ranges.now) result }
 {
     let checked = read_registry(alloc, Role::Only, file)?;
-    match read_ranges(alloc, &checked, &ranges.texts) {
+    let table = prepared(alloc, checked)?;
+    match read_ranges(alloc, &table, &ranges.texts) {
         Ok(read) => Ok(Plan::Match(MatchPlan {
-            checked,
+            table,
             scheme: scheme_of(ranges.matching),
             ranges: read,
         })),

@@ -1,15 +1,18 @@
 //! The registry that a command names. A file is first read: its reading is its entries, or a fault. Then it is judged:
 //! its entries pass the check, or the registry is refused.
-ghost use Rattle.std.specs.Prelude.{◌≡◌, Err, Ok};
+ghost use Rattle.std.specs.Prelude.{◌≡◌, Err, IfErr, IfOk, Ok};
 ghost use Rattle.lt_tool.specs.Registries as spec;
 ghost use Rattle.lt_tool.specs.Registries.{IsJudged, IsRegistryRefusal, ReadsFile, ReadsJudged};
+ghost use Rattle.lt_tool.specs.Results.{no_memory};
 ghost use Rattle.lt_tool.specs.Streams.{stream};
 
 use crate::faults::{Fault, Role};
 use crate::status::Status;
 use lt_canon::{Checked, Finding, RejectedCause};
 use lt_jar::{Device, JarFault, JarFaultKind};
+use lt_range::MatchingTable;
 use lt_registry::{RecordFault, RecordFaultKind, Registry, RegistryFault, SortedTable};
+use lt_stream::ToolFault;
 use std::alloc::Global;
 use std::io::Read;
 
@@ -127,5 +130,19 @@ pub(crate) fn read_registry<F: Read>(
     match judge_file(alloc, file) {
         Ok(checked) => Ok(checked),
         Err(refusal) => Err(Fault::Registry(role, refusal)),
+    }
+}
+
+/// A table prepared for matching. Refused only where memory runs out.
+pub(crate) fn prepared(
+    alloc: Global,
+    checked: Checked<SortedTable>,
+) -> Result<MatchingTable<SortedTable>, Fault>
+    ensures table { IfOk result (λ table. table ≡ checked) }
+    ensures fault { IfErr result (λ fault. fault ≡ no_memory) }
+{
+    match MatchingTable::new(alloc, checked) {
+        Ok(table) => Ok(table),
+        Err(_) => Err(Fault::Run(ToolFault::OutOfMemory)),
     }
 }

@@ -20,7 +20,7 @@ use lt_answers::{Verdict, look_up_line, select_lines, serve_line, verify_lines, 
 use lt_canon::{Checked, Refusal, TextRefusal};
 use lt_jar::Device;
 use lt_lines::{Basis, Counts, LineForm, Tallies, run_tallied};
-use lt_range::Preference;
+use lt_range::{MatchingTable, Preference};
 use lt_registry::{Lookup, validate};
 use lt_stream::ToolFault;
 use lt_tag::{OutOfMemory, Tag, read_tag};
@@ -132,22 +132,22 @@ fn searched(end: Result<Option<Vec<u8>>, ToolFault>) -> Result<Answer, Fault>
 /// Searches the input for the line that lookup (RFC 4647, 3.4) by the ranges finds. The answer prints the line, or is a
 /// refused run if there is none. `Err` if the search fails or memory runs out.
 fn look_up<I: Read>(alloc: Global, plan: &MatchPlan, input: &mut Device<I>) -> Result<Answer, Fault>
-    ensures { Searches (LooksUp plan.now.checked plan.now.ranges.items) (stream I.remaining input.old input.new) result }
+    ensures { Searches (LooksUp plan.now.table plan.now.ranges.items) (stream I.remaining input.old input.new) result }
 {
-    searched(look_up_line(alloc, &plan.checked, &plan.ranges, input))
+    searched(look_up_line(alloc, &plan.table, &plan.ranges, input))
 }
 
 /// Searches the input for the line that is served for preferences. The answer prints the line, or is a refused run if
 /// there is none. `Err` if the search fails or memory runs out.
 fn serve<L: Lookup, I: Read>(
     alloc: Global,
-    checked: &Checked<L>,
+    table: &MatchingTable<L>,
     preferences: &[Preference],
     input: &mut Device<I>,
 ) -> Result<Answer, Fault>
-    ensures { Searches (ServesAmong (L.listed checked.now) preferences.now) (stream I.remaining input.old input.new) result }
+    ensures { Searches (ServesAmong (L.listed table.now) preferences.now) (stream I.remaining input.old input.new) result }
 {
-    searched(serve_line(alloc, checked, preferences, input))
+    searched(serve_line(alloc, table, preferences, input))
 }
 
 /// Writes the lines of the input that ranges match by a scheme of filtering, or gives the one that they find by lookup.
@@ -163,7 +163,7 @@ fn match_lines<I: Read, O: Write>(
     match plan.scheme {
         Some(scheme) => {
             let ranges = &plan.ranges;
-            selected(select_lines(alloc, &plan.checked, scheme, ranges, input, output))
+            selected(select_lines(alloc, &plan.table, scheme, ranges, input, output))
         }
         None => look_up(alloc, plan, input),
     }
@@ -256,7 +256,7 @@ pub(crate) fn run<I: Read, O: Write>(
         Plan::Print(answer) => Ok(answer),
         Plan::Lines(plan) => answer_lines(alloc, &plan, input, output, tallies),
         Plan::Match(plan) => match_lines(alloc, &plan, input, output),
-        Plan::Serve(checked, preferences) => serve(alloc, &checked, &preferences, input),
+        Plan::Serve(table, preferences) => serve(alloc, &table, &preferences, input),
         Plan::Explain(checked, text) => explain(alloc, &checked, text, output),
         Plan::Verify(checked, text) => verify(alloc, &checked, text, input),
         Plan::Show(checked, jar, tags) => {

@@ -1,31 +1,39 @@
 //! What a call does where a growth of memory is refused.
-use super::range_of;
-use crate::tables::checked_sample;
-use lt_canon::{Checked, Refusal, TextRefusal};
-use lt_range::{Available, HeaderRefusal, RangeRefusal, extlang_subtags, header_preferences};
+use super::ranges_of;
+use crate::tables::matching_sample;
+use lt_canon::{Refusal, TextRefusal};
+use lt_range::{Available, HeaderRefusal, MatchingTable, RangeRefusal, header_preferences, tag_spellings};
 use lt_registry::SortedTable;
 use lt_tag::read_tag;
 use lt_testing::{again, retried};
 use std::alloc::Global;
 use std::test::Fail;
 
-/// Texts of ranges, and how many subtags each has by its extlang form.
-const RANGES: &[(&str, usize)] = &[("zh-yue-x-a-b-c", 6), ("de-foo-x-a", 4), ("yue-*-DE", 3)];
+/// Texts of ranges, and how many subtags the ranges have together by which each matches.
+const RANGES: &[(&str, usize)] = &[
+    ("zh-yue-x-a-b-c", 6),
+    ("de-foo-x-a", 4),
+    ("yue-*-DE", 3),
+    ("gsg", 3),
+];
 
-/// How many subtags the range has by which a text matches.
+/// How many subtags the ranges have together by which a text matches.
 fn length_of(
     alloc: Global,
-    checked: &Checked<SortedTable>,
+    table: &MatchingTable<SortedTable>,
     text: &str,
 ) -> Result<usize, RangeRefusal> {
-    let range = range_of(alloc, checked, text)?;
-    Ok(range.named().len())
+    let mut length = 0;
+    for range in &ranges_of(alloc, table, text)? {
+        length += range.named().len();
+    }
+    Ok(length)
 }
 
 /// Whether each range has so many subtags.
-fn are_ranges(alloc: Global, checked: &Checked<SortedTable>) -> Result<bool, RangeRefusal> {
+fn are_ranges(alloc: Global, table: &MatchingTable<SortedTable>) -> Result<bool, RangeRefusal> {
     for (text, length) in RANGES {
-        if length_of(alloc, checked, text)? != *length {
+        if length_of(alloc, table, text)? != *length {
             return Ok(false);
         }
     }
@@ -33,29 +41,29 @@ fn are_ranges(alloc: Global, checked: &Checked<SortedTable>) -> Result<bool, Ran
 }
 
 /// How many subtags a tag has by its extlang form.
-fn subtag_count(alloc: Global, checked: &Checked<SortedTable>, text: &str) -> Result<usize, Fail> {
+fn subtag_count(alloc: Global, table: &MatchingTable<SortedTable>, text: &str) -> Result<usize, Fail> {
     let tag = again!(read_tag(alloc, text.as_bytes()))?;
-    let subtags = retried!(extlang_subtags(alloc, checked, &tag), Refusal::OutOfMemory)?;
+    let subtags = retried!(tag_spellings(alloc, table, &tag), Refusal::OutOfMemory)?;
     Ok(subtags.subtags().len())
 }
 
 /// How many ranges a header has.
 fn range_count(
     alloc: Global,
-    checked: &Checked<SortedTable>,
+    table: &MatchingTable<SortedTable>,
     header: &str,
 ) -> Result<usize, HeaderRefusal> {
     let preferences = retried!(
-        header_preferences(alloc, checked, header.as_bytes()),
+        header_preferences(alloc, table, header.as_bytes()),
         HeaderRefusal::OutOfMemory
     )?;
     Ok(preferences.len())
 }
 
 /// Whether tags are prepared.
-fn are_prepared(alloc: Global, checked: &Checked<SortedTable>, texts: &[&[u8]]) -> bool {
+fn are_prepared(alloc: Global, table: &MatchingTable<SortedTable>, texts: &[&[u8]]) -> bool {
     let prepared = retried!(
-        Available::of_texts(alloc, checked, texts),
+        Available::of_texts(alloc, table, texts),
         refused if matches!(refused.refusal, TextRefusal::OutOfMemory)
     );
     prepared.is_ok()
@@ -63,15 +71,15 @@ fn are_prepared(alloc: Global, checked: &Checked<SortedTable>, texts: &[&[u8]]) 
 
 #[test]
 fn ranges_and_tags_are_prepared(rt: HostRuntime) -> Result<(), Fail> {
-    let checked = checked_sample(rt.alloc())?;
-    assert!(rt; matches!(are_ranges(rt.alloc(), &checked), Ok(true)));
-    assert!(rt; subtag_count(rt.alloc(), &checked, "zh-yue-x-a-b-c")? == 6);
+    let table = matching_sample(rt.alloc())?;
+    assert!(rt; matches!(are_ranges(rt.alloc(), &table), Ok(true)));
+    assert!(rt; subtag_count(rt.alloc(), &table, "zh-yue-x-a-b-c")? == 6);
     assert!(rt;
         matches!(
-            range_count(rt.alloc(), &checked, "de;q=0.5, zh-yue, fr;q=0"),
+            range_count(rt.alloc(), &table, "de;q=0.5, zh-yue, fr;q=0"),
             Ok(3)
         )
     );
-    assert!(rt; are_prepared(rt.alloc(), &checked, &[b"de", b"yue-Hans"]));
+    assert!(rt; are_prepared(rt.alloc(), &table, &[b"de", b"yue-Hans"]));
     Ok(())
 }

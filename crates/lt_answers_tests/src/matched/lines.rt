@@ -1,23 +1,22 @@
 //! Lines that ranges select by the sample, where growths of memory are refused.
 mod growths;
 
-use super::range_of;
-use lt_check::Checked;
-use lt_range::LanguageRange;
+use super::ranges_of;
+use lt_range::{LanguageRange, MatchingTable};
 use lt_registry::SortedTable;
 use lt_testing::again;
 use std::alloc::Global;
 use std::test::Fail;
 
 /// The ranges by which texts match.
-fn ranges_of(
+fn all_ranges(
     alloc: Global,
-    checked: &Checked<SortedTable>,
+    table: &MatchingTable<SortedTable>,
     texts: &[&str],
 ) -> Result<Vec<LanguageRange>, Fail> {
-    let mut ranges = again!(Vec::with_capacity(alloc, texts.len()))?;
+    let mut ranges = again!(Vec::with_capacity(alloc, 10))?;
     for text in texts {
-        ranges.push(range_of(alloc, checked, text)?)?;
+        ranges.append(&mut ranges_of(alloc, table, text)?)?;
     }
     Ok(ranges)
 }

@@ -1,13 +1,13 @@
 //! Which tags a user asks for.
 use super::{small_registry, tag_of};
 use bcp47::{
-    AcceptLanguage, Available, LanguageRange, Registry, TagSubtags, filter_basic, filter_extended,
-    lookup,
+    AcceptLanguage, Available, LanguageRange, Registry, Scheme, TagSubtags, any_matches, filter_basic,
+    filter_extended, lookup,
 };
 use std::alloc::Global;
 use std::test::Fail;
 
-/// The ranges that a header accepts, by priority and by their extlang forms.
+/// The ranges that a header accepts, by priority and in each of their spellings.
 fn ranges_of(
     alloc: Global,
     registry: &Registry,
@@ -16,7 +16,7 @@ fn ranges_of(
     let accept = AcceptLanguage::read(alloc, header)?;
     let mut ranges = Vec::new(alloc);
     for accepted in &accept.acceptable {
-        ranges.push(registry.range(alloc, accepted.range)?)?;
+        ranges.append(&mut registry.ranges(alloc, accepted.range)?)?;
     }
     Ok(ranges)
 }
@@ -91,9 +91,9 @@ fn unserved(alloc: Global, registry: &Registry) -> Option<(&'static str, usize)>
 
 /// Whether a range matches a tag by basic filtering.
 fn is_matched(alloc: Global, registry: &Registry, range: &str, tag: &str) -> Result<bool, Fail> {
-    let range = registry.range(alloc, range.as_bytes())?;
+    let ranges = registry.ranges(alloc, range.as_bytes())?;
     let subtags = registry.subtags(alloc, &tag_of(alloc, tag)?)?;
-    Ok(range.matches_basic(&subtags))
+    Ok(any_matches(Scheme::Basic, &ranges, &subtags))
 }
 
 /// Ranges, and tags that are written otherwise.
@@ -116,7 +116,7 @@ fn are_matched(alloc: Global, registry: &Registry) -> Result<bool, Fail> {
 
 /// The names of the refusals of texts that are no range and no header.
 fn refusals(alloc: Global, registry: &Registry) -> Option<(&'static str, &'static str, usize)> {
-    let range = registry.range(alloc, b"he_IL").err()?;
+    let range = registry.ranges(alloc, b"he_IL").err()?;
     let header = AcceptLanguage::read(alloc, b"he, iw;q=2").err()?;
     Some((range.name(), header.kind.name(), header.place))
 }

@@ -15,7 +15,7 @@ loop-place-preserved c =
     let i = c.loop-place.place in
     let found = c.loop-place.invariant.0 in
     let here : tag_at tags i ≡ get_or tags i (tag_at tags i) = get_or_default tags i [] (tag_at tags i) c.loop-place-test.true in
-    let tells = c.accepts.ensures (tag_at tags i) (c.requires.decided.each i c.loop-place-test.true) in
+    let tells = c.accepts.ensures (tag_at tags i) (c.requires.each i c.loop-place-test.true) in
     elim c.if-accepts.branch [
       | then-accepts+in_ok-push w ↦ (
         found ++ i ∷ [],

@@ -11,7 +11,7 @@ returns-then-index-all c =
     let all = c.args.all.now in
     let i = c.first_serving-index.result in
     let is : c.index-all-index.result ≡ at all i = get_or_read all i c.index-all-index.result c.if-index-all.true
-    c.index-all-index.is (record { range = record { wild = false; named = [] }; weight = 0 }) in
+    c.index-all-index.is (record { range = record { wild = false; named = [] }; weight = 0; place = 0 }) in
     first_serves c.args.wild all c.args.tags.now i c.served.result c.first_serving-index.ensures c.if-index-all.true
     (subst (λ (p : Preference). Serves all p.range c.args.tags.now c.served.result) (sym c.index-all-index.is ∙ is) c.served.ensures)
 

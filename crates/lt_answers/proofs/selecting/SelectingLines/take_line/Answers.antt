@@ -21,7 +21,7 @@ returns-then-not-branch g c =
         q.0,
         q.1,
         q.2,
-        owed_no _ (selected_tells (g.L.Lookup.listed here.checked.now) here.scheme here.ranges.now)
+        owed_no _ (selected_tells (g.L.Lookup.listed here.table.now) here.scheme here.ranges.now)
             lines bytes line c.args.line.now here.count kept q.3
             (λ is. let bad : true ≡ false = sym (c.in_ok-is_selected.ensures.1 is) ∙ not in cc),
       );
@@ -40,7 +40,7 @@ returns g c =
         q.0,
         q.1,
         q.2,
-        owed_yes _ (selected_tells (g.L.Lookup.listed here.checked.now) here.scheme here.ranges.now)
+        owed_yes _ (selected_tells (g.L.Lookup.listed here.table.now) here.scheme here.ranges.now)
             lines bytes line c.args.line.now here.count kept q.3 (c.in_ok-is_selected.ensures.0 yes),
       );
     }

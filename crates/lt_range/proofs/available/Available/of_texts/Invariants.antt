@@ -4,4 +4,4 @@ use Rattle.lt_range.proofs.available.Available.of_texts.Given as goal
 
 -- `tags` are the lists of the texts so far
 abbrev pub invariant-loop-place : goal.invariant-loop-place
-invariant-loop-place g l = AreAvailable (g.L.Lookup.listed l.checked) (map (λ text. text.now) l.texts) l.place l.tags.items
+invariant-loop-place g l = AreAvailable (g.L.Lookup.listed l.table) (map (λ text. text.now) l.texts) l.place l.tags.items
