@@ -16,9 +16,13 @@ returns-in_err-table g c =
 -- the registry is had, and the header gives the preferences
 pub returns-in-Ok : goal.returns-in-Ok
 returns-in-Ok g c =
-    registry_had _ _ _ _ c.in_ok-checked.ensures (c.in-Ok.preferences, c.in-Ok.ensures.preferences, refl)
+    registry_had _ _ _ _ c.in_ok-checked.ensures (
+      c.in-Ok.preferences,
+      rw c.in_ok-table.ensures.table at c.in-Ok.ensures.preferences,
+      rw c.in_ok-table.ensures.table refl,
+    )
 
 -- the registry is had, but the header is refused
 pub returns : goal.returns
 returns g c =
-    registry_had _ _ _ _ c.in_ok-checked.ensures (inl (c.in-Err.refusal, c.in-Err.ensures.refusal, c.fault_of.ensures))
+    registry_had _ _ _ _ c.in_ok-checked.ensures (inl (c.in-Err.refusal, rw c.in_ok-table.ensures.table at c.in-Err.ensures.refusal, c.fault_of.ensures))
