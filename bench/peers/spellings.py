@@ -1,7 +1,7 @@
 #!/usr/bin/env python3
 """Compares matching with its definition: a range matches a tag if RFC 4647 matches some spelling of the range with some spelling of the
-tag, as they are written. Prints the pairs of canonical tags that differ. Ends with status 1 where a pair differs that no whole record
-and no variant with a language value explains.
+tag, as they are written. Prints the pairs of canonical tags that differ. Ends with status 1 where a pair differs that no variant with a
+language value explains.
 
 Usage: bench/peers/spellings.py [REGISTRY]     the example's registry
 
@@ -56,10 +56,10 @@ def main():
     ends = sorted({*found.values()})
     answered = {(range_, tag) for range_ in ends for tag in ends if registry.matches(range_, tag, "basic")}
     defined = by_definition(found)
-    plain = by_definition(found, lambda text: not {"Whole", "VariantLanguage"} & {it.kind for it in registry.explain(text).steps})
+    plain = by_definition(found, lambda text: "VariantLanguage" not in {it.kind for it in registry.explain(text).steps})
     lost, more = defined - answered, answered - defined
     print(f"{len(found)} spellings of {len(ends)} tags, {len(defined)} pairs match by the definition, {len(answered)} are answered;")
-    print(f"{len(lost)} pairs are lost, {len(lost & plain)} of them not only by a whole record or a variant with a value:")
+    print(f"{len(lost)} pairs are lost, {len(lost & plain)} of them not only by a variant with a language value:")
     print("\n".join(f"    {range_} does not find {tag}" for range_, tag in sorted(lost)))
     print(f"{len(more)} pairs are answered that no two of these spellings give:")
     print("\n".join(f"    {range_} finds {tag}" for range_, tag in sorted(more)))

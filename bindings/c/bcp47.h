@@ -247,9 +247,10 @@ bcp47_outcome bcp47_equivalent(const bcp47_registry *registry, const char *first
                           size_t second_length, char *buffer, size_t room);
 
 /* Whether a language range matches a tag by a scheme: BCP47_DONE, or BCP47_DIFFERENT; by BCP47_LOOKUP, whether the range, cut
-   from its end, is the tag. Both are matched by their extlang forms, so that "zh" and "zh-yue" match "yue-HK"; of a range that
-   is no valid tag, for example "yue-*", the first subtag is, where it alone is a valid tag. The range is text 1: BCP47_NOT_A_TAG says of it that it is neither a valid
-   tag nor a range, and the place is 0. The buffer is that of bcp47_equivalent. */
+   from its end, is the tag. Both are matched in each of their spellings: the extlang form, and the whole tags of records that have
+   the same canonical form. So "zh" and "zh-yue" match "yue-HK", and "no" matches "nb", which is "no-bok". Of a range that is no
+   valid tag, for example "yue-*", the first subtag is matched in its extlang form, where it alone is a valid tag. The range is
+   text 1: BCP47_NOT_A_TAG says of it that it is neither a valid tag nor a range, and the place is 0. The buffer is that of bcp47_equivalent. */
 bcp47_outcome bcp47_match(const bcp47_registry *registry, int scheme, const char *range, size_t range_length, const char *tag,
                           size_t tag_length, char *buffer, size_t room);
 
@@ -264,7 +265,7 @@ bcp47_outcome bcp47_available_open(bcp47_available **available, bcp47_registry *
    0 where no range of the header serves a tag, so that the caller takes a default. The ranges have their turn from the greatest
    weight to the least, `*` after all others, and the first that serves a tag decides: the longest tag to which it falls back
    (RFC 4647, 3.4), so that "de-CH" serves "de"; else the first that it matches by basic filtering (3.3.1), so that "de" serves
-   "de-CH". No tag is served whose weight is 0. Ranges and tags are matched by their extlang forms, as by bcp47_match.
+   "de-CH". No tag is served whose weight is 0. Ranges and tags are matched in each of their spellings, as by bcp47_match.
 
    BCP47_BAD_HEADER says that the text is no such header, with the fault as `detail` and the number of the list element at fault,
    from 1, as `place`; BCP47_REPLACEMENT_REPEATS that replacements would repeat a variant of one of its ranges. */

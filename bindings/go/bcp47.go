@@ -199,9 +199,9 @@ func (s Scheme) String() string {
 	return [...]string{"Basic", "Extended", "Lookup"}[s-Basic]
 }
 
-// Matches tells whether a language range matches a tag by a scheme, both by their extlang forms: zh-yue matches yue-HK.
-// Of a range that is no valid tag, for example yue-*, the first subtag has this form. The *TagError is of the range, where that is
-// neither a valid tag nor a range, or else of the tag; another scheme gives ErrScheme.
+// Matches tells whether a language range matches a tag by a scheme, both in each of their spellings: zh-yue matches yue-HK.
+// Of a range that is no valid tag, for example yue-*, the first subtag is taken in its extlang form. The *TagError is of the range,
+// where that is neither a valid tag nor a range, or else of the tag; another scheme gives ErrScheme.
 func (r *Registry) Matches(languageRange, tag string, scheme Scheme) (bool, error) {
 	if scheme < Basic || scheme > Lookup {
 		return false, ErrScheme

@@ -160,9 +160,9 @@ export class Registry {
   /** Whether two tags are equivalent: their canonical texts are equal. */
   equivalent(first: string | Tag | Intl.Locale, second: string | Tag | Intl.Locale): boolean;
   /**
-   * Whether a language range matches a tag (RFC 4647), by their extlang forms: by basic filtering (3.3.1), by extended
+   * Whether a language range matches a tag (RFC 4647), in each of their spellings: by basic filtering (3.3.1), by extended
    * filtering (3.3.2), or by lookup (3.4), where the range, cut from its end, is the tag. Of a range that is no valid tag, for
-   * example `yue-*`, the first subtag has this form. Throws RefusedTag for the range, or else for the tag.
+   * example `yue-*`, the first subtag is taken in its extlang form. Throws RefusedTag for the range, or else for the tag.
    */
   matches(range: string | Tag | Intl.Locale, tag: string | Tag | Intl.Locale, scheme?: 'basic' | 'extended' | 'lookup'): boolean;
   /** The tags of which a service serves one, prepared for readers' headers. */

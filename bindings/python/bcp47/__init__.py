@@ -384,9 +384,9 @@ class Registry(_bcp47.Registry):
 
     def matches(self, range: Union[str, Tag], tag: Union[str, Tag],
                 scheme: Literal["basic", "extended", "lookup"] = "extended") -> bool:
-        """Whether a language range matches a tag (RFC 4647), by their extlang forms: by basic filtering (3.3.1), by extended
+        """Whether a language range matches a tag (RFC 4647), in a spelling of each: by basic filtering (3.3.1), by extended
         filtering (3.3.2), or by lookup (3.4), where the range, cut from its end, is the tag. Of a range that is no valid tag, for
-        example `yue-*`, the first subtag has this form. Raises RefusedTag for the range, or else for the tag."""
+        example `yue-*`, the first subtag is taken in its extlang form. Raises RefusedTag for the range, or else for the tag."""
         if scheme not in _SCHEMES:
             raise ValueError(f"a scheme is basic, extended or lookup, not {scheme!r}")
         return self._match(_SCHEMES[scheme], range, tag)

@@ -34,8 +34,8 @@ use lt_canon::{Refusal, TextRefusal, Trace, TraceFault};
 use lt_check::{Checked, RejectedCause};
 use lt_jar::{Device, Record};
 use lt_range::{
-    Available, AvailableRefusal, HeaderRefusal, LanguageRange, MatchingTable, Preference, RangeRefusal,
-    TagSubtags,
+    Available, AvailableRefusal, HeaderRefusal, LanguageRange, MatchingTable, Preference,
+    RangeRefusal, TagSubtags,
 };
 use lt_registry::{Entry, Kind, Lookup, Registry as Entries, SortedTable, ValidRefusal};
 use lt_show::Row;

@@ -7,7 +7,6 @@ use Rattle.std.proofs.lemmas.List.{append_assoc, append-nil}
 use Rattle.std.proofs.Math.ListN.{drop_of_length-le}
 use Rattle.lt_tag.specs.Parts.{CoreParts, ExtensionParts, TagForm, LangTag, PrivateUse, Grandfathered}
 use Rattle.lt_tag.specs.WellFormed.{spell}
-use Rattle.lt_tag.specs.Faults.{HasTag}
 use Rattle.lt_tag.specs.declared.faults.OutOfMemory.{OutOfMemory}
 use Rattle.lt_tag.proofs.OneTagLemmas.{one_tag}
 use Rattle.lt_registry.specs.Parts.{EntryParts}

@@ -197,10 +197,7 @@ fn append_each(
 }
 
 /// Adds the ranges of the spellings of a tag. The only refusal is running out of memory.
-fn append_spellings(
-    tag: TagSubtags,
-    ranges: &mut Vec<LanguageRange>,
-) -> Result<(), OutOfMemory>
+fn append_spellings(tag: TagSubtags, ranges: &mut Vec<LanguageRange>) -> Result<(), OutOfMemory>
     ensures { OnOk result (ranges.new.items ≡ ranges.old.items ++ map range_of_tag tag) }
 {
     let (first, others) = tag.into_lists();

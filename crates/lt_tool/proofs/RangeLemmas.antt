@@ -14,9 +14,13 @@ ranges_more : (R : List EntryParts) (texts : List (List ℕ)) (ranges : List Ran
     : List RangeParts) → AreRanges R texts ranges → AreRangesOf R text added
     → AreRanges R (texts ++ text ∷ []) (ranges ++ added)
 ranges_more R [] ranges text added none is = rw none (added, [], is, sym (append-nil added), refl)
-ranges_more R (first ∷ texts) ranges text added (one, more, here, split, are) is =
-    (one, more ++ added, here, ap (λ (l : List RangeParts). l ++ added) split ∙ append_assoc one more added,
-    ranges_more R texts more text added are is)
+ranges_more R (first ∷ texts) ranges text added (one, more, here, split, are) is = (
+  one,
+  more ++ added,
+  here,
+  ap (λ (l : List RangeParts). l ++ added) split ∙ append_assoc one more added,
+  ranges_more R texts more text added are is,
+)
 
 -- `x` is the element of the index `i`, and `f` gives the text of an element
 module _ {X : Type 0} (f : X → List ℕ) (xs : List X) (i : ℕ) (x : X) (within : i < length xs) (is : x ≡ get_or xs i x) where

@@ -155,9 +155,9 @@ impl Registry {
         self.agree(0, first.as_ref(), second.as_ref())
     }
 
-    /// Whether a language range matches a tag by a scheme (RFC 4647, 3.3 and 3.4), both by their extlang forms: `zh-yue`
-    /// matches `yue-HK`. Of a range that is no valid tag, for example `yue-*`, the first subtag has this form. Refused for the range,
-    /// where it is neither a valid tag nor a range, or else for the tag.
+    /// Whether a language range matches a tag by a scheme (RFC 4647, 3.3 and 3.4), in a spelling of each: `zh-yue`
+    /// matches `yue-HK`. Of a range that is no valid tag, for example `yue-*`, the first subtag is taken in its extlang form. Refused
+    /// for the range, where it is neither a valid tag nor a range, or else for the tag.
     pub fn matches(&self, range: impl AsRef<[u8]>, tag: impl AsRef<[u8]>, scheme: Scheme) -> Result<bool, TagError> {
         self.agree(scheme as c_int, range.as_ref(), tag.as_ref())
     }

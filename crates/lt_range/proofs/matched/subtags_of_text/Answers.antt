@@ -1,4 +1,4 @@
-use Rattle.std.proofs.Common.{◌≡◌, ◌∙◌, ◌∷◌, ℕ, List, ap, subst, sym}
+use Rattle.std.proofs.Common.{ℕ, List, subst, sym}
 use Rattle.lt_check.specs.Conditions.{IsChecked}
 use Rattle.lt_range.specs.Matched.{HasSubtags}
 use Rattle.lt_range.specs.OtherSpellings.{AreOthersOf}

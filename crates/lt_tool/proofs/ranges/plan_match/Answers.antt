@@ -15,12 +15,11 @@ returns-in_err-table g c =
 
 -- the registry is had and all texts are ranges, which the plan holds with the scheme
 pub returns-in-Ok : goal.returns-in-Ok
-returns-in-Ok g c = registry_had _ _ _ _ c.in_ok-checked.ensures
-    (
-      c.in-Ok.read,
-      rw (c.in_ok-table.ensures.table, c.deref.ensures.value) at c.in-Ok.ensures.ranges,
-      rw (c.in_ok-table.ensures.table, c.scheme_of.ensures) refl,
-    )
+returns-in-Ok g c = registry_had _ _ _ _ c.in_ok-checked.ensures (
+  c.in-Ok.read,
+  rw (c.in_ok-table.ensures.table, c.deref.ensures.value) at c.in-Ok.ensures.ranges,
+  rw (c.in_ok-table.ensures.table, c.scheme_of.ensures) refl,
+)
 
 -- the registry is had, but one of the texts is refused as a range
 pub returns : goal.returns

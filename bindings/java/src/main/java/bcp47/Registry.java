@@ -173,8 +173,9 @@ public final class Registry implements AutoCloseable {
     }
 
     /**
-     * Tells whether a language range matches a tag (RFC 4647, 3.3 and 3.4), both by their extlang forms: <code>zh-yue</code>
-     * matches <code>yue-HK</code>. Of a range that is no valid tag, for example <code>yue-*</code>, the first subtag has this form.
+     * Tells whether a language range matches a tag (RFC 4647, 3.3 and 3.4), in a spelling of each: <code>zh-yue</code>
+     * matches <code>yue-HK</code>. Of a range that is no valid tag, for example <code>yue-*</code>, the first subtag is taken in
+     * its extlang form.
      *
      * @param range a language range
      * @param tag a tag

@@ -1,4 +1,4 @@
-use Rattle.std.proofs.Common.{◌≡◌, ℕ, List, rules, subst}
+use Rattle.std.proofs.Common.{◌≡◌, List, rules, subst}
 use Rattle.lt_range.specs.Preferences.{IsBest}
 use Rattle.lt_range.specs.Spellings.{Spellings}
 use Rattle.lt_range.proofs.available.Available.best.Goals as goal

@@ -1,7 +1,6 @@
-use Rattle.std.proofs.Common.{◌≡◌, List, rules, subst}
+use Rattle.std.proofs.Common.{rules}
 use Rattle.lt_check.specs.Conditions.{IsChecked}
 use Rattle.lt_range.specs.OtherSpellings.{AreRows}
-use Rattle.lt_range.specs.declared.matching_table.OtherSpelling.{OtherSpelling}
 use Rattle.lt_range.proofs.SpellingLemmas.{others_ok}
 use Rattle.lt_range.proofs.matching_table.MatchingTable.other_spellings.Goals as goal
 
