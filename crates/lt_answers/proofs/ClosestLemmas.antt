@@ -65,7 +65,8 @@ all_front P (range ∷ ranges) (suc n) few each = (
 -- tags with the spellings `lists`, and one more with the spellings `list`
 module _ (lists : List Spellings) (list : Spellings) where
   -- a range that found none of the tags, and does not fall back to the further one, finds none still
-  pub none_more : (range : RangeParts) → FindsNone lists range → (MatchesSome FallsBackTo range list → ⊥) → FindsNone (lists ++ list ∷ []) range
+  pub none_more : (range : RangeParts) → FindsNone lists range → (MatchesSome FallsBackTo range list → ⊥)
+      → FindsNone (lists ++ list ∷ []) range
   none_more range none not = each_more lists list [] (λ (l : Spellings). MatchesSome FallsBackTo range l → ⊥) none not
 
   -- a range finds the same tag still if it does not fall back to the further one, or if that has no more subtags
@@ -79,10 +80,12 @@ module _ (lists : List Spellings) (list : Spellings) where
         longest = subst (λ (t : Spellings). (i : ℕ) → i < length (lists ++ list ∷ [])
             → MatchesSome FallsBackTo range (tag_at (lists ++ list ∷ []) i) → count_in (tag_at (lists ++ list ∷ []) i) ≤ count_in t)
             (sym same)
-            (each_more lists list [] (λ (l : Spellings). MatchesSome FallsBackTo range l → count_in l ≤ count_in (tag_at lists place)) f.longest short);
+            (each_more lists list [] (λ (l : Spellings). MatchesSome FallsBackTo range l → count_in l ≤ count_in
+            (tag_at lists place)) f.longest short);
         first = λ i before falls.
             let here : tag_at (lists ++ list ∷ []) i ≡ tag_at lists i = before_last lists list [] i (omega (arith, before, f.within)) in
-            let less : count_in (tag_at lists i) < count_in (tag_at lists place) = f.first i before (subst (MatchesSome FallsBackTo range) here falls) in
+            let less : count_in (tag_at lists i) < count_in (tag_at lists place) = f.first i before (subst
+            (MatchesSome FallsBackTo range) here falls) in
             omega (arith, less, ap count_in here, ap count_in same);
       }
 

@@ -32,7 +32,8 @@ preferences_next R elements n all here within h go = λ more rest.
     let none : ElementParts = record { range = []; weight = 0 } in
     let step : ArePreferences R n (element_at_place elements n ∷ drop (n + 1) elements) (here ++ more) = (here, more, refl, h, rest) in
     subst (λ (l : List Preference). ArePreferences R 0 elements l) (sym (append_assoc all here more))
-    (go (here ++ more) (subst (λ (l : List ElementParts). ArePreferences R n l (here ++ more)) (sym (drop_more elements n none within)) step))
+    (go (here ++ more) (subst (λ (l : List ElementParts). ArePreferences R n l (here ++ more)) (sym
+    (drop_more elements n none within)) step))
 
 -- past the last element, the preferences are those of all
 pub preferences_end : (R : List EntryParts) (elements : List ElementParts) (n : ℕ) (all : List Preference)

@@ -15,7 +15,8 @@ use Rattle.lt_range.specs.Spellings.{HasSpellings, Spellings}
 use Rattle.lt_range.proofs.MatchLaws.{determined, same_spellings, spellings_of_text}
 
 -- if the spellings of the first n texts are followed by those of the next, they are those of the first n + 1
-pub available_next : (R : List EntryParts) (texts : List (List ℕ)) (n : ℕ) (tags : List Spellings) (lists : Spellings) → AreAvailable R texts n tags
+pub available_next : (R : List EntryParts) (texts : List (List ℕ)) (n : ℕ) (tags : List Spellings)
+    (lists : Spellings) → AreAvailable R texts n tags
     → HasSubtags R (text_at texts n) lists → AreAvailable R texts (n + 1) (tags ++ lists ∷ [])
 available_next R texts n tags lists h k = record {
   counted = length-append tags (lists ∷ []) ∙ ap (λ (i : ℕ). i + 1) h.counted;

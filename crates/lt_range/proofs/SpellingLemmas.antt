@@ -1,6 +1,7 @@
 -- The other spellings of a tag are among the rows of a table, and its canonical form is a part of its extlang form. So
 -- `MatchingTable` and `tag_spellings` give the spellings of a tag.
-use Rattle.std.proofs.Common.{◌≡◌, ◌<◌, ◌≤◌, ◌+◌, ◌++◌, ◌∙◌, ℕ, inl, inr, List, [], ◌∷◌, IfOk, Ok, Err, Option, Some, None, drop, get_or, length, refl, sym, ap, subst}
+use Rattle.std.proofs.Common.{◌≡◌, ◌<◌, ◌≤◌, ◌+◌, ◌++◌, ◌∙◌, ℕ, inl, inr, List, [], ◌∷◌}
+use Rattle.std.proofs.Common.{IfOk, Ok, Err, Option, Some, None, drop, get_or, length, refl, sym, ap, subst}
 use Rattle.std.specs.Prelude.{Result, Vec}
 use Rattle.std.specs.declared.alloc.Global.{Global}
 use Rattle.std.proofs.lemmas.List.{append_assoc, append-nil}
@@ -183,7 +184,8 @@ module _ (R : List EntryParts) (C : IsChecked R) where
     is_form = h;
     others = others;
     are_others = a h.canonical h.canonical_form.canonical
-        (subst (λ (x : TagForm). canonical_part x (spell x) ≡ spell h.canonical) (sym h.is) (part_of h.canonical h.canonical_form.canonical));
+        (subst (λ (x : TagForm). canonical_part x (spell x) ≡ spell h.canonical) (sym h.is)
+        (part_of h.canonical h.canonical_form.canonical));
     spelled = refl;
   }
 

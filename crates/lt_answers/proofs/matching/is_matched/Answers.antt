@@ -8,7 +8,8 @@ pub returns-in-Some : goal.returns-in-Some
 returns-in-Some g c =
     let R = g.L.Lookup.listed c.args.table.now in
     matched_as R c.args.text.now c.args.scheme c.args.ranges.now c.in-Some.subtags c.any_matches.result
-    (c.matching_is_determined.ensures R (rw c.checked-checked.ensures at c.table.ensures.checked)) (rw c.in-Some.is at c.in_ok-subtags.ensures)
+    (c.matching_is_determined.ensures R (rw c.checked-checked.ensures at c.table.ensures.checked))
+    (rw c.in-Some.is at c.in_ok-subtags.ensures)
     c.any_matches.ensures
 
 -- the text has no subtags by which it is matched, so no range matches it

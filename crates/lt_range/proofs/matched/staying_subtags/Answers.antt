@@ -17,7 +17,8 @@ stay g c =
 shown : (g : _) (c : After-text_of_tag_has_its_list g) → c.append_text.new.texts.items ≡ conventional (list_of c.args.text.now)
 shown g c =
     let R = g.L.Lookup.listed c.args.table.now in
-    rw c.new-shown.ensures.items at c.in_ok-append_text.ensures.appended R (rw c.checked-checked.ensures at c.usual.ensures.flags) c.if-not-branch.false
+    rw c.new-shown.ensures.items at c.in_ok-append_text.ensures.appended R
+    (rw c.checked-checked.ensures at c.usual.ensures.flags) c.if-not-branch.false
 
 -- each piece of it is a subtag
 pub of_text-requires : goal.of_text-requires
@@ -35,5 +36,7 @@ returns g c =
     let listed = shown_listed R c.args.text.now (stay g d) c.text_of_tag_has_its_list.ensures in
     let same : c.in_ok-subtags.subtags ≡ list_of c.args.text.now =
     c.in_ok-subtags.ensures ∙ ap list_of (c.deref.ensures.value ∙ shown g d) ∙ listed.1 in
-    subst (StaysAs R c.args.text.now) (sym same) (stays_as R c.args.text.now (stay g d) (rw c.checked-checked.ensures at c.usual.ensures.checked)
-    (λ s ss is. rw (← c.checked-checked.ensures, ← c.table.ensures.value) (sym (c.begins_with_extlang.ensures s ss (same ∙ is)) ∙ c.if-begins_with_extlang.false)))
+    subst (StaysAs R c.args.text.now) (sym same) (stays_as R c.args.text.now (stay g d)
+    (rw c.checked-checked.ensures at c.usual.ensures.checked)
+    (λ s ss is. rw (← c.checked-checked.ensures, ← c.table.ensures.value) (sym
+    (c.begins_with_extlang.ensures s ss (same ∙ is)) ∙ c.if-begins_with_extlang.false)))

@@ -15,9 +15,12 @@ loop-entry-preserved g c =
     let within : i < length R = rw listed at c.loop-entry-test.true in
     let is = rw listed at c.entry-item.is in
     elim c.match-branch-2.branch [
-      | in-Some+in_ok-push-in-Some w ↦ rw w.rows-is (subst (λ (l : List OtherSpelling). RowsOn R R (i + 1) l) (sym w.in_ok-push-in-Some.ensures.items)
-          (rows_yes R R i e w.in-Some.row c.loop-entry.rows.items within is (rw w.in-Some.is at c.in_ok-row.ensures) c.loop-entry.invariant))
-      | in-None w ↦ rw w.rows-is (rows_no R R i e c.loop-entry.rows.items within is (rw w.in-None.is at c.in_ok-row.ensures) c.loop-entry.invariant)
+      | in-Some+in_ok-push-in-Some w ↦ rw w.rows-is (subst (λ (l : List OtherSpelling). RowsOn R R (i + 1) l)
+          (sym w.in_ok-push-in-Some.ensures.items)
+          (rows_yes R R i e w.in-Some.row c.loop-entry.rows.items within is
+          (rw w.in-Some.is at c.in_ok-row.ensures) c.loop-entry.invariant))
+      | in-None w ↦ rw w.rows-is (rows_no R R i e c.loop-entry.rows.items within is
+          (rw w.in-None.is at c.in_ok-row.ensures) c.loop-entry.invariant)
     ]
 
 -- the rows are those of all records: none is left

@@ -17,10 +17,12 @@ loop-row-preserved c =
       | then-are_equal+in_ok-copy_of+in_ok-push w ↦
           let equal : row.canonical ≡ canonical = sym c.subtags.ensures ∙ c.are_equal.ensures.0 w.if-are_equal.true in
           rw w.lists-is (subst (λ (l : Spellings). AmongOn canonical rows (i + 1) l)
-          (sym (w.in_ok-push.ensures.items ∙ ap (λ (x : List (List ℕ)). lists ++ x ∷ []) (w.in_ok-copy_of.ensures ∙ w.subtags-then-are_equal.ensures)))
+          (sym (w.in_ok-push.ensures.items ∙ ap (λ (x : List (List ℕ)). lists ++ x ∷ [])
+          (w.in_ok-copy_of.ensures ∙ w.subtags-then-are_equal.ensures)))
           (among_yes canonical rows i row lists c.loop-row-test.true c.row-item.is equal c.loop-row.invariant))
       | else-are_equal w ↦ rw w.lists-is (among_no canonical rows i row lists c.loop-row-test.true c.row-item.is
-          (λ e. let bad : false ≡ true = sym w.if-are_equal.false ∙ c.are_equal.ensures.1 (c.subtags.ensures ∙ e) in cc) c.loop-row.invariant)
+          (λ e. let bad : false ≡ true = sym w.if-are_equal.false ∙ c.are_equal.ensures.1 (c.subtags.ensures
+          ∙ e) in cc) c.loop-row.invariant)
     ]
 
 -- the lists are those among all rows: none is left

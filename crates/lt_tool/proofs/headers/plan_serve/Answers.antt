@@ -25,4 +25,5 @@ returns-in-Ok g c =
 -- the registry is had, but the header is refused
 pub returns : goal.returns
 returns g c =
-    registry_had _ _ _ _ c.in_ok-checked.ensures (inl (c.in-Err.refusal, rw c.in_ok-table.ensures.table at c.in-Err.ensures.refusal, c.fault_of.ensures))
+    registry_had _ _ _ _ c.in_ok-checked.ensures (inl
+    (c.in-Err.refusal, rw c.in_ok-table.ensures.table at c.in-Err.ensures.refusal, c.fault_of.ensures))

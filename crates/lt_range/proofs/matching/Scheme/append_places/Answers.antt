@@ -13,7 +13,8 @@ use Rattle.lt_range.proofs.matching.Scheme.append_places.Goals.{else-matches-via
 -- the range matches it and no range of `before` does
 pub loop-place-preserved : goal.loop-place-preserved
 loop-place-preserved c =
-    let P = λ (tag : Spellings). MatchesSome (MatchesBy c.args.self) c.args.range.now tag × NoneMatches (MatchesSome (MatchesBy c.args.self)) c.args.before.now tag in
+    let P = λ (tag : Spellings). MatchesSome (MatchesBy c.args.self) c.args.range.now tag × NoneMatches
+    (MatchesSome (MatchesBy c.args.self)) c.args.before.now tag in
     let tags = c.args.tags.now in
     let i = c.loop-place.place in
     let t = c.index-tags-place.result in
@@ -43,6 +44,7 @@ loop-place-preserved c =
 -- the places that were added are those of all such tags: no tag is left
 pub returns : goal.returns
 returns c =
-    let P = λ (tag : Spellings). MatchesSome (MatchesBy c.args.self) c.args.range.now tag × NoneMatches (MatchesSome (MatchesBy c.args.self)) c.args.before.now tag in
+    let P = λ (tag : Spellings). MatchesSome (MatchesBy c.args.self) c.args.range.now tag × NoneMatches
+    (MatchesSome (MatchesBy c.args.self)) c.args.before.now tag in
     let inv = c.loop-place.invariant in
     (inv.0, inv.1, places_end P c.args.tags.now c.loop-place.place inv.0 c.loop-place-test.false inv.2)

@@ -9,6 +9,8 @@ abbrev pub invariant-loop-place : goal.invariant-loop-place
 invariant-loop-place l =
     (found : List ℕ) × (l.places.items ≡ l.initial.places.items ++ found)
     × ((more : List ℕ)
-    → ArePlaces (λ tag. MatchesSome (MatchesBy l.self) l.range tag × NoneMatches (MatchesSome (MatchesBy l.self)) l.before tag) l.place (drop
+    → ArePlaces (λ tag. MatchesSome (MatchesBy l.self) l.range tag × NoneMatches (MatchesSome
+    (MatchesBy l.self)) l.before tag) l.place (drop
     l.place l.tags) more
-    → ArePlaces (λ tag. MatchesSome (MatchesBy l.self) l.range tag × NoneMatches (MatchesSome (MatchesBy l.self)) l.before tag) 0 l.tags (found ++ more))
+    → ArePlaces (λ tag. MatchesSome (MatchesBy l.self) l.range tag × NoneMatches (MatchesSome
+    (MatchesBy l.self)) l.before tag) 0 l.tags (found ++ more))
