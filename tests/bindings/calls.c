@@ -288,6 +288,11 @@ static void match(void) {
         {BCP47_LOOKUP, "zh-Hans-XA-x-private1-private2", "zh-XA", BCP47_DIFFERENT},
         {BCP47_LOOKUP, "zh-yue-GB", "yue", BCP47_DONE},
         {BCP47_LOOKUP, "yue-GB", "zh", BCP47_DONE},
+        {BCP47_BASIC, "sgn", "gsg", BCP47_DONE},
+        {BCP47_BASIC, "sgn-BE", "sfb", BCP47_DONE},
+        {BCP47_BASIC, "sgn-BE", "gsg", BCP47_DIFFERENT},
+        {BCP47_EXTENDED, "gsg", "sgn-DE-x-a", BCP47_DONE},
+        {BCP47_LOOKUP, "gsg", "sgn", BCP47_DONE},
         {BCP47_LOOKUP, "de", "de-DE", BCP47_DIFFERENT},
         {BCP47_LOOKUP, "*", "de", BCP47_DIFFERENT},
     };
