@@ -67,10 +67,14 @@ const ROWS: &[(&[(&str, u16)], &[&str], Option<usize>, &str)] = &[
 /// Ranges with their weights.
 fn preferred(alloc: Global, ranges: &[(&str, u16)]) -> Result<Vec<Preference>, Fail> {
     let mut preferences = Vec::new(alloc);
-    for (text, weight) in ranges {
+    for (place, (text, weight)) in ranges.iter().enumerate() {
         let range = range_of(alloc, text)?;
         let weight = *weight;
-        preferences.push(Preference { range, weight })?;
+        preferences.push(Preference {
+            range,
+            weight,
+            place,
+        })?;
     }
     Ok(preferences)
 }
