@@ -2,7 +2,9 @@
 use super::ranges_of;
 use crate::tables::matching_sample;
 use lt_canon::{Refusal, TextRefusal};
-use lt_range::{Available, HeaderRefusal, MatchingTable, RangeRefusal, header_preferences, tag_spellings};
+use lt_range::{
+    Available, HeaderRefusal, MatchingTable, RangeRefusal, header_preferences, tag_spellings,
+};
 use lt_registry::SortedTable;
 use lt_tag::read_tag;
 use lt_testing::{again, retried};
@@ -41,7 +43,11 @@ fn are_ranges(alloc: Global, table: &MatchingTable<SortedTable>) -> Result<bool,
 }
 
 /// How many subtags a tag has by its extlang form.
-fn subtag_count(alloc: Global, table: &MatchingTable<SortedTable>, text: &str) -> Result<usize, Fail> {
+fn subtag_count(
+    alloc: Global,
+    table: &MatchingTable<SortedTable>,
+    text: &str,
+) -> Result<usize, Fail> {
     let tag = again!(read_tag(alloc, text.as_bytes()))?;
     let subtags = retried!(tag_spellings(alloc, table, &tag), Refusal::OutOfMemory)?;
     Ok(subtags.subtags().len())

@@ -1,8 +1,8 @@
 //! Which tags a user asks for.
 use super::{small_registry, tag_of};
 use bcp47::{
-    AcceptLanguage, Available, LanguageRange, Registry, Scheme, TagSubtags, any_matches, filter_basic,
-    filter_extended, lookup,
+    AcceptLanguage, Available, LanguageRange, Registry, Scheme, TagSubtags, any_matches,
+    filter_basic, filter_extended, lookup,
 };
 use std::alloc::Global;
 use std::test::Fail;

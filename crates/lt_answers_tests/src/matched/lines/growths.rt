@@ -44,7 +44,11 @@ fn is_owed(end: Result<u64, ToolFault>, page: &Page) -> bool {
 
 /// Whether lines are selected; and where a growth is refused, whether only the first of them were written, and another run
 /// selects them.
-fn are_selected(alloc: Global, table: &MatchingTable<SortedTable>, ranges: &[LanguageRange]) -> bool {
+fn are_selected(
+    alloc: Global,
+    table: &MatchingTable<SortedTable>,
+    ranges: &[LanguageRange],
+) -> bool {
     let (end, page) = run(alloc, table, ranges);
     if end == Err(ToolFault::OutOfMemory) && OWED.starts_with(text_of(&page)) {
         let (end, page) = run(alloc, table, ranges);
