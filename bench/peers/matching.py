@@ -66,7 +66,10 @@ class Answers:
     """The answers of a registry."""
 
     def __init__(self, registry):
-        self.registry = registry
+        self.registry, self.whole = registry, collections.defaultdict(list)
+        for tag in (it["Tag"] for it in map(dict, registry.records()) if "Tag" in it):
+            if self.extlang(tag) not in (None, tag):
+                self.whole[self.extlang(tag)].append(tag)
 
     @functools.cache
     def extlang(self, text):
@@ -75,6 +78,10 @@ class Answers:
             return self.registry.extlang(text)
         except bcp47.RefusedTag:
             return None
+
+    def spellings(self, text):
+        """The texts of a tag's spellings: its extlang form, and the whole tags that are registered with the same form."""
+        return [self.extlang(text), *self.whole[self.extlang(text)]]
 
     @functools.cache
     def is_range(self, text):
@@ -88,11 +95,12 @@ class Answers:
     def to(self, case):
         """The tags that are found."""
         scheme, ranges, tags = case
-        found = [[tag for tag in tags if self.registry.matches(it, tag, scheme)] for it in ranges]
+        found = [(it, [tag for tag in tags if self.registry.matches(it, tag, scheme)]) for it in ranges]
         if scheme != "lookup":
-            return once([tag for those in found for tag in those])
-        # what ranges find are fronts of them: the longest text has the most subtags
-        return [max(those, key=lambda tag: len(self.extlang(tag))) for those in found if those][:1]
+            return once([tag for _, those in found for tag in those])
+        # what a range finds are fronts of it, first of its extlang form: the longest text has the most subtags
+        return [max(those, key=lambda tag: (str(self.extlang(it)).startswith(self.extlang(tag)), len(self.extlang(tag))))
+                for it, those in found if those][:1]
 
 
 def java(cases, folder):
@@ -130,13 +138,17 @@ def matched(range_, mend, answers):
     return "-".join([answers.extlang(first) or first, *others])
 
 
-def mended(case, answers, is_extlang):
-    """The case as Java would have to be asked: ranges and tags by their extlang forms, and no `*` that Java takes otherwise."""
+def mended(case, answers, forms):
+    """The case as Java would have to be asked: without a `*` that Java takes otherwise; from 1 on by extlang forms; from 2 on in each
+    spelling."""
     scheme, ranges, tags = case
     mend = {"basic": str, "extended": without_last_stars, "lookup": without_stars}[scheme]
-    if not is_extlang:
+    if not forms:
         return scheme, [mend(it) for it in ranges], tags
-    return scheme, [matched(it, mend, answers) for it in ranges], [answers.extlang(it) for it in tags]
+    if forms == 1:
+        return scheme, [matched(it, mend, answers) for it in ranges], [answers.extlang(it) for it in tags]
+    spelled = [answers.spellings(it) if answers.extlang(it) else [matched(it, mend, answers)] for it in ranges]
+    return scheme, once(itertools.chain(*spelled)), once(itertools.chain(*map(answers.spellings, tags)))
 
 
 def is_in_order(case, found, said, tags):
@@ -145,8 +157,9 @@ def is_in_order(case, found, said, tags):
     return has_star and case[0] != "lookup" and said == [tag for tag in tags if tag in found]
 
 
-def why(case, found, answers, one, two, three):
-    """Why Java answers otherwise, by its answers to the case, to the case without the stars, and to that by extlang forms."""
+def why(case, found, answers, one, two, three, four):
+    """Why Java answers otherwise, by its answers to the case, to the case without the stars, and to that by extlang forms and in each
+    spelling."""
     if found == one:
         return "the same"
     if found == two:
@@ -157,6 +170,9 @@ def why(case, found, answers, one, two, three):
     tags = once(map(answers.extlang, case[2]))
     if three is not None and (forms == once(three) or is_in_order(case, forms, once(three), tags)):
         return "extlang forms"
+    four = four and once(map(answers.extlang, four))
+    if four is not None and (forms == four or is_in_order(case, forms, four, tags)):
+        return "whole tags"
     return None
 
 
@@ -173,10 +189,10 @@ def main():
     ours = [answers.to(case) for case in asked]
     with tempfile.TemporaryDirectory() as folder:
         subprocess.run(["javac", "-d", folder, HERE / "Matching.java"], check=True)
-        said = iter(java(cases + asked + [mended(case, answers, it) for it in (False, True) for case in asked], folder))
-    of_cases, theirs, by_stars, by_both = (list(itertools.islice(said, len(it))) for it in (cases, asked, asked, asked))
+        said = iter(java(cases + asked + [mended(case, answers, it) for it in range(3) for case in asked], folder))
+    of_cases, *others = (list(itertools.islice(said, len(it))) for it in (cases, asked, asked, asked, asked))
     counts, unknown = collections.Counter(), []
-    for case, found, *said in zip(asked, ours, theirs, by_stars, by_both):
+    for case, found, *said in zip(asked, ours, *others):
         reason = why(case, found, answers, *said)
         counts[reason] += 1
         if not reason:
