@@ -11,31 +11,32 @@ use lt_testing::{again, retried};
 use std::alloc::Global;
 use std::test::Fail;
 
-/// Texts of ranges, and how many subtags the ranges have together by which each matches.
-const RANGES: &[(&str, usize)] = &[
-    ("zh-yue-x-a-b-c", 6),
-    ("de-foo-x-a", 4),
-    ("yue-*-DE", 3),
-    ("gsg", 3),
+/// Texts, how many ranges each matches by, and how many subtags the first of these has.
+const RANGES: &[(&str, usize, usize)] = &[
+    ("zh-yue-x-a-b-c", 1, 6),
+    ("de-foo-x-a", 1, 4),
+    ("yue-*-DE", 1, 3),
+    ("gsg", 2, 1),
 ];
 
-/// How many subtags the ranges have together by which a text matches.
-fn length_of(
+/// How many ranges a text matches by, and how many subtags the first of these has.
+fn lengths_of(
     alloc: Global,
     table: &MatchingTable<SortedTable>,
     text: &str,
-) -> Result<usize, RangeRefusal> {
-    let mut length = 0;
-    for range in &ranges_of(alloc, table, text)? {
-        length += range.named().len();
-    }
-    Ok(length)
+) -> Result<(usize, usize), RangeRefusal> {
+    let ranges = ranges_of(alloc, table, text)?;
+    let subtags = match ranges.first() {
+        Some(range) => range.named().len(),
+        None => 0,
+    };
+    Ok((ranges.len(), subtags))
 }
 
-/// Whether each range has so many subtags.
+/// Whether each text has so many ranges, and the first so many subtags.
 fn are_ranges(alloc: Global, table: &MatchingTable<SortedTable>) -> Result<bool, RangeRefusal> {
-    for (text, length) in RANGES {
-        if length_of(alloc, table, text)? != *length {
+    for (text, count, subtags) in RANGES {
+        if lengths_of(alloc, table, text)? != (*count, *subtags) {
             return Ok(false);
         }
     }
