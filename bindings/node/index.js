@@ -335,7 +335,8 @@ class Registry {
 
   record(number) {
     if (typeof number !== 'number') throw wrongType('number', 'of type number', number);
-    const texts = answered(this.#open, native.record(this.#open, number));
+    const held = this.#open, isNumbered = Number.isInteger(number) && number > 0 && number <= 0xffffffff;
+    const texts = isNumbered ? answered(held, native.record(held, number)) : [];
     return texts.filter((_, i) => i % 2 === 0).map((name, i) => ({ name, body: texts[2 * i + 1] }));
   }
 

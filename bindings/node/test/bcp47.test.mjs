@@ -333,7 +333,7 @@ test('tags have parents', () => {
 test('records have fields', () => {
   const registry = Registry.fromFile(sample);
   assert.deepEqual(registry.record(1), [{ name: 'File-Date', body: '2024-01-01' }]);
-  assert.deepEqual(registry.record(4e9), []);
+  assert.deepEqual([4e9, 2 ** 32 + 1, 1.5, 0, -1, NaN].map((number) => registry.record(number)), Array(6).fill([]));
   const own = new Registry(Buffer.from('Type: language\nSubtag: nb\nDescription: Norsk bokmål\nDescription: \ufeffb\n'));
   assert.deepEqual(own.record(1).map(({ body }) => body), ['language', 'nb', 'Norsk bokmål', '\ufeffb']);
   own.close();

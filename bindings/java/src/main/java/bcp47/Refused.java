@@ -43,6 +43,6 @@ public abstract class Refused extends IllegalArgumentException {
     /** @return the class, the message, and the tag or the file, with <code>?</code> for each control character, so that it is one line of a log */
     @Override
     public String toString() {
-        return super.toString() + (what.isEmpty() ? "" : ": " + what.replaceAll("\\p{Cntrl}", "?"));
+        return super.toString() + (what.isEmpty() ? "" : ": " + what.replaceAll("\\p{Cc}", "?"));
     }
 }

@@ -160,6 +160,7 @@ final class Calls {
     /** What logs and assertions show of an object, and which are equal. */
     private static void shown(Registry registry, Path sample) {
         is("bcp47.RefusedTag: BadByte 1: en_US?forged", thrown(RefusedTag.class, () -> registry.canonical("en_US\nforged")).toString());
+        is("bcp47.RefusedTag: BadByte 1: en?31m", thrown(RefusedTag.class, () -> registry.canonical("en\u009b31m")).toString());
         is("bcp47.RefusedTag: EmptySubtag 1", thrown(RefusedTag.class, () -> registry.canonical("")).toString());
         RefusedTag inHeader = thrown(RefusedTag.class, () -> registry.available(List.of("en")).best("en, e_n"));
         is("bcp47.RefusedTag: BadByte 2: en, e_n", inHeader.toString());
