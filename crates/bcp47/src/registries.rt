@@ -93,7 +93,26 @@ fn sorted(alloc: Global, entries: Entries) -> Option<SortedTable>
     SortedTable::new(alloc, entries).ok()
 }
 
-/// The registry of a table, prepared for matching. It is refused only where memory runs out.
+/// The table of these entries, if it passes the check, or why the check rejects them, which may be that memory ran out. It is
+/// not inlined into its callers, so that what reads a registry needs no stack for what checks it.
+#[inline(never)]
+fn check_table(alloc: Global, entries: Entries) -> Result<Checked<SortedTable>, RegistryError>
+    ensures { IsJudged (Ok entries) result }
+{
+    let Some(table) = sorted(alloc, entries) else {
+        return Err(RegistryError::OutOfMemory);
+    };
+    match Checked::new(alloc, table) {
+        Ok(checked) => Ok(checked),
+        Err(rejected) => Err(match rejected.cause {
+            RejectedCause::Finding(finding) => RegistryError::Check(finding),
+            RejectedCause::OutOfMemory => RegistryError::OutOfMemory,
+        }),
+    }
+}
+
+/// The registry of a table, prepared for matching. It is refused only where memory runs out. It is not inlined either.
+#[inline(never)]
 fn prepared(alloc: Global, checked: Checked<SortedTable>) -> Result<Registry, RegistryError>
     ensures value { IfOk result (λ registry. registry ≡ checked) }
     ensures refusal { IfErr result (λ error. error ≡ errors.OutOfMemory) }
@@ -106,22 +125,12 @@ fn prepared(alloc: Global, checked: Checked<SortedTable>) -> Result<Registry, Re
     }
 }
 
-/// The registry of these entries, or why the check rejects them, which may be that memory ran out. It is not inlined into its
-/// callers, so that what reads a registry needs no stack for what checks it.
-#[inline(never)]
+/// The registry of these entries, or why the check rejects them, which may be that memory ran out.
 fn check_entries(alloc: Global, entries: Entries) -> Result<Registry, RegistryError>
     ensures { IsJudged (Ok entries) result }
 {
-    let Some(table) = sorted(alloc, entries) else {
-        return Err(RegistryError::OutOfMemory);
-    };
-    match Checked::new(alloc, table) {
-        Ok(checked) => prepared(alloc, checked),
-        Err(rejected) => Err(match rejected.cause {
-            RejectedCause::Finding(finding) => RegistryError::Check(finding),
-            RejectedCause::OutOfMemory => RegistryError::OutOfMemory,
-        }),
-    }
+    let checked = check_table(alloc, entries)?;
+    prepared(alloc, checked)
 }
 
 /// Does nothing when it runs: its clause says what holds of each table that passes the check.
