@@ -84,7 +84,8 @@ def kit_component(name, kit):
 
 def other_component(name):
     package, expression = OTHERS[name]
-    version = subprocess.run(["dpkg-query", "-W", "-f", "${Version}", package], stdout=subprocess.PIPE, text=True, check=True).stdout
+    asked = subprocess.run(["dpkg-query", "-W", "-f", "${Version}", package], stdout=subprocess.PIPE, text=True, check=False)
+    version = asked.stdout or sys.exit(f"the package {package} is not installed, so the version of {name} can't be told")
     return {"type": "library", "bom-ref": name, "name": name, "version": version, "licenses": licence(expression),
             "purl": f"pkg:deb/debian/{package}@{version}"}
 

@@ -147,7 +147,8 @@ for name, found in inside.items():
         assert of_library <= found and "kit:clap" not in found, name
 licences = {part["name"]: part["licenses"][0]["expression"] for part in parts["components"] if part["type"] == "file"}
 for name, found in inside.items():
-    assert ("Unlicense" in licences[name], "LGPL" in licences[name]) == ("kit:memchr" in found, "glibc" in found), name
+    said = [word in licences[name] for word in ("Unlicense", "LGPL", "ZPL")]
+    assert said == [it in found for it in ("kit:memchr", "glibc", "mingw-w64")], name
 END
 
 passes "the list of parts has what LICENSE names, with an address for each" /usr/bin/python3 - "$folder/dist" << 'END'

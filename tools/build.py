@@ -170,7 +170,8 @@ def main():
         tasks[it.name, "proof"] = waits, it.count(rb"\n"), rt.need(it), lambda given, jobs, it=it: build(it, jobs)
     waits = [*tasks]
     for it in (crates[name] for name in names if words):
-        tasks[it.name, "proof"] = waits, it.count(rb"\n") + 1000, rt.need(it), lambda given, jobs, it=it: run(it, words, held)
+        kind = "scripts" if (it.name, "proof") in tasks else "proof"
+        tasks[it.name, kind] = waits, it.count(rb"\n") + 1000, rt.need(it), lambda given, jobs, it=it: run(it, words, held)
     return int(not all(Lanes(rt, tasks).run().values()))
 
 

@@ -151,7 +151,7 @@ static bcp47_outcome parts(const char *text, size_t length, char *buffer, size_t
 
 static const source of_canonical = {bcp47_canonical, NULL, BCP47_DONE}, of_variant = {bcp47_canonical, NULL, BCP47_REPLACEMENT_REPEATS},
                     of_extlang = {bcp47_extlang, NULL, BCP47_DONE}, of_parent = {NULL, bcp47_parent, BCP47_DONE},
-                    of_posix = {NULL, bcp47_posix, BCP47_DONE}, of_parts = {NULL, parts, BCP47_DONE};
+                    of_parts = {NULL, parts, BCP47_DONE};
 
 /* (registry, tag) or, for what asks no registry, (tag): a text */
 static napi_value text_by(napi_env env, napi_callback_info info) {
@@ -303,6 +303,18 @@ static napi_value served(napi_env env, napi_callback_info info) {
     return made;
 }
 
+/* posix(name): the tag of the name of a POSIX locale, which may have any length */
+static napi_value posix(napi_env env, napi_callback_info info) {
+    napi_value value;
+    char buffer[ROOM];
+    size_t length;
+    char *name = takes(env, info, 1, &value, NULL) ? whole_text_of(env, value, &length) : NULL;
+    if (!name) return NULL;
+    bcp47_outcome outcome = bcp47_posix(name, length, buffer, sizeof buffer);
+    free(name);
+    return outcome.status == BCP47_DONE ? string_of(env, buffer, outcome.length) : refusal(env, outcome);
+}
+
 /* with(tag, part, value): a tag with another part */
 static napi_value with(napi_env env, napi_callback_info info) {
     napi_value values[3];
@@ -354,7 +366,7 @@ NAPI_MODULE_INIT() {
     } functions[] = {
         {"open", open_registry, NULL},       {"close", close_registry, NULL},   {"canonical", text_by, &of_canonical},
         {"variant", text_by, &of_variant},   {"extlang", text_by, &of_extlang}, {"parent", text_by, &of_parent},
-        {"posix", text_by, &of_posix},       {"parts", text_by, &of_parts},     {"explain", given, NULL},
+        {"posix", posix, NULL},              {"parts", text_by, &of_parts},     {"explain", given, NULL},
         {"show", given, NULL},               {"record", record, NULL},          {"validate", validate, NULL},
         {"match", match, NULL},              {"facts", facts, NULL},            {"names", names, NULL},
         {"available", available, NULL},      {"best", served, NULL},            {"filter", served, &no_memory},

@@ -112,7 +112,8 @@ function callsOf(wasm) {
     variant: byRegistry(wasm.bcp47_canonical, REPEATS),
     extlang: byRegistry(wasm.bcp47_extlang),
     parent: alone(wasm.bcp47_parent),
-    posix: alone(wasm.bcp47_posix),
+    // a name may have any length
+    posix: (name) => lendText(name, (place, size) => written(wasm.bcp47_posix(place, size, output, ROOM))),
     with: (tag, part, value) => lendText(value, (place, size) =>
       written(wasm.bcp47_with(input, write(tag, input), part, place, size, output, ROOM))),
     available(held, tags) {

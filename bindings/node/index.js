@@ -133,11 +133,17 @@ class Tag {
   with(parts) {
     const names = Object.keys(REPLACED), wrong = Object.keys(parts).find((name) => !names.includes(name));
     if (wrong !== undefined) throw new TypeError(`no part of a tag is named '${wrong}': ${names.join(', ')}`);
+    const steps = Object.keys(REPLACED).filter((name) => parts[name] !== undefined).map((name) => [name, joined(parts[name], name)]);
+    if (steps.length > 1 && this.language) {
+      // the language comes last, so that no text on the way is a grandfathered tag, as art-lojban is
+      const last = parts.language === undefined ? ['language', [this.language, ...this.extlangs].join('-')] : steps.shift();
+      steps.unshift(['language', 'und']);
+      steps.push(last);
+    }
     let text = this.text;
-    for (const [name, number] of Object.entries(REPLACED)) {
-      if (parts[name] === undefined) continue;
-      const value = joined(parts[name], name), part = value && name === 'privateUse' ? `x-${value}` : value;
-      text = answered(null, native.with(text, number, part), text, part);
+    for (const [name, value] of steps) {
+      const part = value && name === 'privateUse' ? `x-${value}` : value;
+      text = answered(null, native.with(text, REPLACED[name], part), text, part);
     }
     return new Tag(text);
   }

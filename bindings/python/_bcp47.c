@@ -402,7 +402,8 @@ static PyObject *registry_given(PyObject *self, PyObject *arguments) {
 
 /* record(number): a list of the fields, each its name and its body. The first call reads the records. */
 static PyObject *registry_record(PyObject *self, PyObject *argument) {
-    unsigned long number = PyLong_AsUnsignedLong(argument);
+    int overflow;
+    long long number = PyLong_AsLongLongAndOverflow(argument, &overflow);
     bcp47_field *fields;
     const char *at;
     registry_object *registry = PyErr_Occurred() ? NULL : opened(self);
@@ -410,7 +411,7 @@ static PyObject *registry_record(PyObject *self, PyObject *argument) {
     bcp47_outcome outcome;
     registry->calls++;
     Py_BEGIN_ALLOW_THREADS
-    outcome = bcp47_record(registry->registry, number > UINT32_MAX ? 0 : (uint32_t)number, &fields, &at);
+    outcome = bcp47_record(registry->registry, number < 0 || number > UINT32_MAX ? 0 : (uint32_t)number, &fields, &at);
     Py_END_ALLOW_THREADS
     end_call(registry);
     if (outcome.status != BCP47_DONE) return PyErr_NoMemory();

@@ -84,6 +84,9 @@ test('a part that is undefined is as if it were not given', () => {
   assert.deepEqual(tag.with({ region: undefined, script: 'Hant', extensions: undefined }), new Tag('zh-yue-Hant-TW-x-a'));
   assert.deepEqual([tag.with({}), tag.with({ privateUse: null })], [tag, new Tag('zh-yue-TW')]);
   assert.deepEqual(Tag.fromParts({ language: 'de', region: undefined }), new Tag('de'));
+  const made = [Tag.fromParts({ language: 'art', variants: ['lojban'], privateUse: 'own' }), new Tag('de-gaulish').with({ language: 'cel', region: 'FR' }),
+    new Tag('art-lojban-x-own').with({ privateUse: null, region: 'US' })];
+  assert.deepEqual(made.map(String), ['art-lojban-x-own', 'cel-FR-gaulish', 'art-US-lojban']);
 });
 
 test('parts of a wrong type', () => {
@@ -124,6 +127,7 @@ test('an argument of a wrong type is named, and what was given', () => {
 
 test('tags of POSIX', () => {
   assert.deepEqual(['sr_RS.UTF-8@latin', 'C', 'de_AT'].map((name) => `${Tag.fromPosix(name)}`), ['sr-Latn-RS', 'en-US-u-va-posix', 'de-AT']);
+  assert.equal(`${Tag.fromPosix(`sr_RS.${'x'.repeat(5000)}@latin`)}`, 'sr-Latn-RS');
   assert.throws(() => Tag.fromPosix('en_US@klingon'), { message: 'BadByte 0' });
 });
 

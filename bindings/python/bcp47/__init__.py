@@ -226,10 +226,13 @@ class Tag:
         for name in parts.keys() - _REPLACED.keys():
             raise TypeError(f"no part of a tag is named {name!r}: {', '.join(_REPLACED)}")
         text = self.text
-        for name, number in _REPLACED.items():
-            if name in parts:
-                value = _joined(name, parts[name])
-                text = _bcp47.replaced(text, number, "x-" + value if value and name == "private" else value)
+        steps = [(number, _joined(name, parts[name])) for name, number in _REPLACED.items() if name in parts]
+        if len(steps) > 1 and self.language:
+            # the language comes last, so that no text on the way is a grandfathered tag, as art-lojban is
+            last = steps.pop(0) if "language" in parts else (_REPLACED["language"], "-".join((self.language, *self.extlangs)))
+            steps = [(_REPLACED["language"], "und"), *steps, last]
+        for number, value in steps:
+            text = _bcp47.replaced(text, number, "x-" + value if value and number == _REPLACED["private"] else value)
         return type(self)(text)
 
     @property

@@ -1,11 +1,14 @@
 -- The other spellings of a tag are among the rows of a table, and its canonical form is a part of its extlang form. So
 -- `MatchingTable` and `tag_spellings` give the spellings of a tag.
-use Rattle.std.proofs.Common.{◌≡◌, ◌<◌, ◌≤◌, ◌+◌, ◌++◌, ◌∙◌, ℕ, inl, inr, List, [], ◌∷◌}
-use Rattle.std.proofs.Common.{IfOk, Ok, Err, Option, Some, None, drop, get_or, length, refl, sym, ap, subst}
+use native.Mathlib.Omega.{arith}
+use Rattle.std.proofs.Common.{◌≡◌, ◌==◌, ◌<◌, ◌≤◌, ◌+◌, ◌-◌, ◌++◌, ◌∙◌, ℕ, inl, inr, List, [], ◌∷◌}
+use Rattle.std.proofs.Common.{IfOk, Ok, Err, Option, Some, None, drop, get_or, length, slice_index_or, refl, sym, ap, subst}
 use Rattle.std.specs.Prelude.{Result, Vec}
 use Rattle.std.specs.declared.alloc.Global.{Global}
 use Rattle.std.proofs.lemmas.List.{append_assoc, append-nil}
+use Rattle.std.proofs.lemmas.List.Splits.{length-slice_split}
 use Rattle.std.proofs.Math.ListN.{drop_of_length-le}
+use Rattle.lt_tag.specs.Grandfathered.{grandfathered_list, grandfathered_texts}
 use Rattle.lt_tag.specs.Parts.{CoreParts, ExtensionParts, TagForm, LangTag, PrivateUse, Grandfathered}
 use Rattle.lt_tag.specs.WellFormed.{spell}
 use Rattle.lt_tag.specs.declared.faults.OutOfMemory.{OutOfMemory}
@@ -23,8 +26,8 @@ use Rattle.lt_canon.specs.ExtlangForm.{behind, extlang_form, IsExtlangFormOf, pr
 use Rattle.lt_canon.proofs.CanonicalForms.{extlang_answer, no_extlang}
 use Rattle.lt_canon.proofs.RepeatedVariants.{equivalence_is_equality}
 use Rattle.lt_range.specs.Matched.{HasSubtags}
-use Rattle.lt_range.specs.OtherSpellings.{after_prefix, AreAmong, AreOthersOf, AreRows, canonical_part, IsNoSpelling, IsRow, MayBeRow}
-use Rattle.lt_range.specs.OtherSpellings.{MayDiffer, StaysAs}
+use Rattle.lt_range.specs.OtherSpellings.{after_prefix, AreAmong, AreOthersOf, AreRows, canonical_of, canonical_part, IsNoSpelling}
+use Rattle.lt_range.specs.OtherSpellings.{IsRow, MayBeRow, MayDiffer, StaysAs}
 use Rattle.lt_range.specs.Spellings.{AreOthers, HasSpellings, IsOtherSpelling, Spellings}
 use Rattle.lt_range.proofs.FilterLemmas.{next_is}
 use Rattle.lt_range.specs.declared.matching_table.OtherSpelling.{OtherSpelling}
@@ -65,7 +68,7 @@ module _ (canonical : List (List ℕ)) (rows : List OtherSpelling) where
 
   -- the spelling of the next row is added, if its canonical form is that of the tag
   pub among_yes : (i : ℕ) (row : OtherSpelling) (lists : Spellings) → i < length rows → row ≡ get_or rows i row
-      → row.canonical ≡ canonical → AmongOn i lists → AmongOn (i + 1) (lists ++ row.spelled ∷ [])
+      → canonical_of row ≡ canonical → AmongOn i lists → AmongOn (i + 1) (lists ++ row.spelled ∷ [])
   among_yes i row lists within is equal go = λ more rest.
       let here : AreAmong canonical (row ∷ drop (i + 1) rows) (row.spelled ∷ more) = inl (equal, (more, refl, rest)) in
       subst (λ (l : Spellings). AreAmong canonical rows l) (sym (append_assoc lists (row.spelled ∷ []) more))
@@ -74,7 +77,7 @@ module _ (canonical : List (List ℕ)) (rows : List OtherSpelling) where
 
   -- and it is not if that is another
   pub among_no : (i : ℕ) (row : OtherSpelling) (lists : Spellings) → i < length rows → row ≡ get_or rows i row
-      → (row.canonical ≡ canonical → ⊥) → AmongOn i lists → AmongOn (i + 1) lists
+      → (canonical_of row ≡ canonical → ⊥) → AmongOn i lists → AmongOn (i + 1) lists
   among_no i row lists within is other go = λ more rest.
       let here : AreAmong canonical (row ∷ drop (i + 1) rows) more = inr (other, rest) in
       go more (subst (λ (l : List OtherSpelling). AreAmong canonical l more) (sym (next_is rows i row within is)) here)
@@ -85,6 +88,14 @@ module _ (canonical : List (List ℕ)) (rows : List OtherSpelling) where
       let none : drop i rows ≡ [] = drop_of_length-le rows past in
       subst (λ (l : Spellings). AreAmong canonical rows l) (append-nil lists)
       (go [] (subst (λ (l : List OtherSpelling). AreAmong canonical l []) (sym none) refl))
+
+-- a tag has a subtag
+pub spells_some : (t : TagForm) → length (spell t) ≡ 0 → ⊥
+unfolding grandfathered_list
+spells_some (LangTag c es ps) h = omega (arith, h)
+spells_some (PrivateUse ps) h = omega (arith, h)
+spells_some (Grandfathered n) h =
+    omega (arith, h, length-slice_split (λ (b : ℕ). b == 45) (slice_index_or grandfathered_texts (n - 1) []))
 
 -- a record is of one whole tag
 one_whole : (name : EntryName) (a b : TagForm) → name ≡ names.Whole a → name ≡ names.Whole b → a ≡ b
@@ -113,7 +124,7 @@ module _ (R : List EntryParts) (C : IsChecked R) where
 
   module _ (tag : TagForm) (canonical : List (List ℕ)) (K : IsCanonical R tag) (is : canonical ≡ spell tag) where
     -- the row of a record is of this canonical tag if the subtags are those of the tag
-    row_of_tag : (e : EntryParts) (row : OtherSpelling) (r : IsRow R e row) → row.canonical ≡ canonical → r.canonical ≡ tag
+    row_of_tag : (e : EntryParts) (row : OtherSpelling) (r : IsRow R e row) → canonical_of row ≡ canonical → r.canonical ≡ tag
     row_of_tag e row r h = one_tag r.canonical tag r.is.form.canonical.valid.proper.tag.tag K.valid.proper.tag.tag
         (sym r.canonically ∙ h ∙ is)
 
@@ -145,9 +156,9 @@ module _ (R : List EntryParts) (C : IsChecked R) where
   row_found e tag form (Ok (Some row)) named h differs = record {
     tag = tag;
     canonical = form;
-    is = record { named = named; other = λ e. differs.1 (ap spell e); form = h };
-    spelled = ap (λ (x : OtherSpelling). x.spelled) differs.0;
-    canonically = ap (λ (x : OtherSpelling). x.canonical) differs.0;
+    is = record { named = named; other = λ e. differs.2 (ap spell e); form = h };
+    spelled = differs.0;
+    canonically = differs.1;
   }
   row_found e tag form (Err memory) named h differs = tt
 

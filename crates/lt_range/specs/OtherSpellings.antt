@@ -10,13 +10,17 @@ use Rattle.lt_canon.specs.ExtlangForm.{extlang_form}
 use Rattle.lt_range.specs.Spellings.{AreOthers, IsOtherSpelling, Spellings}
 use Rattle.lt_range.specs.declared.matching_table.OtherSpelling.{OtherSpelling}
 
+-- the subtags of a row's canonical form
+abbrev pub canonical_of : OtherSpelling → List (List ℕ)
+canonical_of row = row.first ∷ row.others
+
 -- the record is of another spelling, and these are its subtags and those of its canonical form
 pub record IsRow (R : List EntryParts) (e : EntryParts) (row : OtherSpelling) : Type 0 where
   pub tag : TagForm
   pub canonical : TagForm
   pub is : IsOtherSpelling R e tag canonical
   pub spelled : row.spelled ≡ spell tag
-  pub canonically : row.canonical ≡ spell canonical
+  pub canonically : canonical_of row ≡ spell canonical
 
 -- the record is of no other spelling of a tag
 abbrev pub IsNoSpelling : List EntryParts → EntryParts → Type 0
@@ -31,7 +35,7 @@ MayBeRow R e (Some row) = IsRow R e row
 abbrev pub MayDiffer : (spelled canonical : List (List ℕ)) → Option OtherSpelling → Type 0
 MayDiffer spelled canonical None = spelled ≡ canonical
 MayDiffer spelled canonical (Some row) =
-    (row ≡ record { canonical = canonical; spelled = spelled }) × (spelled ≡ canonical → ⊥)
+    (row.spelled ≡ spelled) × (canonical_of row ≡ canonical) × (spelled ≡ canonical → ⊥)
 
 -- the other spellings that these records are of, in their order
 abbrev pub AreRows : List EntryParts → List EntryParts → List OtherSpelling → Type 0
@@ -44,9 +48,9 @@ AreRows R (e ∷ es) rows =
 abbrev pub AreAmong : List (List ℕ) → List OtherSpelling → Spellings → Type 0
 AreAmong canonical [] lists = lists ≡ []
 AreAmong canonical (row ∷ rows) lists =
-    ((row.canonical ≡ canonical) × ((rest : Spellings) × (lists ≡ row.spelled ∷ rest)
+    ((canonical_of row ≡ canonical) × ((rest : Spellings) × (lists ≡ row.spelled ∷ rest)
     × AreAmong canonical rows rest))
-    ⊎ ((row.canonical ≡ canonical → ⊥) × AreAmong canonical rows lists)
+    ⊎ ((canonical_of row ≡ canonical → ⊥) × AreAmong canonical rows lists)
 
 -- the lists are the other spellings of the canonical tag that has these subtags
 abbrev pub AreOthersOf : List EntryParts → List (List ℕ) → Spellings → Type 0

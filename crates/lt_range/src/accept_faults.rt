@@ -9,11 +9,11 @@ use thiserror::Error;
 /// What is wrong with a list element (RFC 9110, 12.5.4), in the order in which faults are looked for.
 #[derive(Clone, Copy, Debug, Drop, Error, PartialEq, Eq)]
 pub enum AcceptFaultKind {
-    /// It begins with no language range, for this fault, which is never `OutOfMemory` where a call of this crate
+    /// It does not begin with a language range, for this fault, which is never `OutOfMemory` where a call of this crate
     /// answers it.
     #[error("{0}")]
     BadRange(RangeFault),
-    /// Its range has a `*` beside other subtags, as `de-*-DE` has. The header has basic ranges alone (RFC 4647, 2.1).
+    /// Its range has a `*` beside other subtags, as `de-*-DE` has. The header has only basic ranges (RFC 4647, 2.1).
     #[error("ExtendedRange: write a range without `*`, or `*` alone")]
     ExtendedRange,
     /// What follows the range is no weight (RFC 9110, 12.4.2), as in `en;q=2` and `en fr`.
@@ -56,8 +56,8 @@ impl From<RangeFault> for AcceptFaultKind {
 pub struct AcceptFault {
     /// What the fault is.
     pub kind: AcceptFaultKind,
-    /// The number of the leftmost list element at fault, from 1, where what is between two commas counts even if it is
-    /// empty. For `OutOfMemory` it says nothing.
+    /// The number of the leftmost list element at fault, counted from 1; empty elements count too. For `OutOfMemory` it
+    /// says nothing.
     pub place: usize,
 }
 

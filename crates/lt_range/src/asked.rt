@@ -24,8 +24,8 @@ pub enum HeaderRefusal {
     /// crate answers it.
     #[error("{0}")]
     NotAHeader(AcceptFault),
-    /// One of its ranges is refused, for example a valid tag of which steps can repeat a variant. It is never that
-    /// memory ran out where a call of this crate answers it.
+    /// One of its ranges is refused, for example a valid tag of which steps can repeat a variant. This refusal is never
+    /// that memory ran out where a call of this crate answers it.
     #[error("{0}")]
     BadRange(RangeRefusal),
     /// Memory ran out.

@@ -7,11 +7,11 @@ use lt_tag::OutOfMemory;
 use std::alloc::{AllocError, AllocFailed};
 use thiserror::Error;
 
-/// Why a text is no language range (RFC 4647, 2.2), of its leftmost piece at fault.
+/// Why a text is no language range (RFC 4647, 2.2): the fault of its leftmost piece that has one.
 #[derive(Clone, Copy, Debug, Drop, Error, PartialEq, Eq)]
 pub enum RangeFault {
     /// A piece between hyphens is neither `*` nor a subtag, for this fault.
-    #[error("{0}: write each subtag as `*` or as 1 to 8 letters or digits")]
+    #[error("{}: write each subtag as `*` or as 1 to 8 letters or digits", self.name())]
     BadSubtag(SubtagFault),
     /// The first subtag has a digit.
     #[error("BadFirst: begin with a subtag of letters, or with `*`")]

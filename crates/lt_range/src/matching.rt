@@ -11,7 +11,7 @@ use crate::tag_subtags::{SubtagList, TagSubtags};
 use lt_subtag::Subtag;
 
 /// Whether two subtags are equal.
-fn are_same(first: &Subtag, second: &Subtag) -> bool
+pub(crate) fn are_same(first: &Subtag, second: &Subtag) -> bool
     ensures { IsTrue result ↔ (first.now ≡ second.now) }
 {
     first == second

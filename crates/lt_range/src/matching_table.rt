@@ -1,9 +1,9 @@
 //! A table that passes the check, with what matching needs of it: the other spellings of canonical tags.
-ghost use Rattle.std.specs.Prelude.{◌≡◌, IfOk};
+ghost use Rattle.std.specs.Prelude.{◌≡◌, ◌↔◌, IfOk, IsTrue};
 ghost use Rattle.lt_tag.specs.WellFormed.{spell};
-ghost use Rattle.lt_range.specs.OtherSpellings.{AreAmong, AreOthersOf, AreRows, MayBeRow, MayDiffer};
+ghost use Rattle.lt_range.specs.OtherSpellings.{AreAmong, AreOthersOf, AreRows, canonical_of, MayBeRow, MayDiffer};
 
-use crate::matching::are_equal;
+use crate::matching::{are_equal, are_same};
 use crate::tag_subtags::SubtagList;
 use lt_canon::{Refusal, canonical};
 use lt_check::Checked;
@@ -16,8 +16,10 @@ use std::marker::Model;
 /// A whole tag that is not canonical, with its canonical form: `no-bok` is another spelling of `nb`.
 #[derive(Drop)]
 pub(crate) struct OtherSpelling {
-    /// The subtags of the canonical form.
-    canonical: SubtagList,
+    /// The first subtag of the canonical form: it tells most forms apart, and stands in the row itself.
+    first: Subtag,
+    /// The subtags of the canonical form after the first one.
+    others: SubtagList,
     /// The subtags of the whole tag.
     spelled: SubtagList,
 }
@@ -64,11 +66,20 @@ fn row_of_tag(
     if are_equal(canonical.subtags(), spelled.subtags()) {
         return Ok(None);
     }
-    Ok(Some(OtherSpelling { canonical, spelled }))
+    let Some((first, others)) = canonical.subtags().split_first() else {
+        unreachable!()
+    };
+    Ok(Some(OtherSpelling {
+        first: first.copy(),
+        others: SubtagList::copy_of(alloc, others)?,
+        spelled,
+    }))
 }
 
+// This one and its callers are not inlined, so that their frames end with them.
 /// The row of a record. None if it is not of a whole tag, or of one that has no canonical form or is canonical. The
 /// only refusal is running out of memory.
+#[inline(never)]
 fn row_of<L: Lookup>(
     alloc: Global,
     checked: &Checked<L>,
@@ -89,6 +100,7 @@ fn row_of<L: Lookup>(
 }
 
 /// The rows of all records, in their order. The only refusal is running out of memory.
+#[inline(never)]
 fn rows_of<L: Lookup>(
     alloc: Global,
     checked: &Checked<L>,
@@ -105,6 +117,18 @@ fn rows_of<L: Lookup>(
     Ok(rows)
 }
 
+/// Whether the canonical form of a row has these subtags.
+fn is_of(row: &OtherSpelling, canonical: &[Subtag]) -> bool
+    ensures { IsTrue result ↔ (canonical_of row.now ≡ canonical.now) }
+{
+    match canonical.split_first() {
+        Some((first, others)) => {
+            are_same(&row.first, first) && are_equal(row.others.subtags(), others)
+        }
+        None => false,
+    }
+}
+
 /// The subtags of each of these spellings that has a canonical form with the subtags `canonical`, in their order. The
 /// only refusal is running out of memory.
 fn spellings_among(
@@ -116,7 +140,7 @@ fn spellings_among(
 {
     let mut lists = Vec::new(alloc);
     for row in rows {
-        if are_equal(row.canonical.subtags(), canonical) {
+        if is_of(row, canonical) {
             lists.push(SubtagList::copy_of(alloc, row.spelled.subtags())?)?;
         }
     }
@@ -126,6 +150,7 @@ fn spellings_among(
 impl<L: Lookup + Drop> MatchingTable<L> {
     /// Prepares a table for matching: makes the whole tags of its records canonical, some hundred in IANA's registry.
     /// The only refusal is running out of memory.
+    #[inline(never)]
     pub fn new(alloc: Global, checked: Checked<L>) -> Result<MatchingTable<L>, OutOfMemory>
         ensures { IfOk result (λ table. table ≡ checked) }
     {

@@ -8,15 +8,15 @@ use lt_tag::OutOfMemory;
 use std::alloc::AllocFailed;
 use thiserror::Error;
 
-/// Why a text matches as no language range.
+/// Why a text can't be used as a language range.
 #[derive(Debug, Drop, Error)]
 pub enum RangeRefusal {
     /// The text is no valid tag, and no range for this fault, which is never `OutOfMemory` where a call of this crate
     /// answers it.
     #[error("{0}")]
     NotARange(RangeFault),
-    /// Steps can repeat a variant of the valid tag, so that it has no canonical form. It is this variant that occurs
-    /// twice where no core step leads on.
+    /// The text is a valid tag, but steps can repeat a variant of it, so it has no canonical form: once no core step
+    /// leads on, this variant occurs twice.
     #[error("replacements can repeat a variant: take one of the variants out")]
     ReplacementRepeats(Subtag),
     /// Memory ran out.

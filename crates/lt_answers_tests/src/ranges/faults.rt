@@ -11,6 +11,10 @@ const SAID: &[(&str, &str)] = &[
         "BadByte: write each subtag as `*` or as 1 to 8 letters or digits",
     ),
     (
+        "de--CH",
+        "EmptySubtag: write each subtag as `*` or as 1 to 8 letters or digits",
+    ),
+    (
         "12",
         "BadFirst: begin with a subtag of letters, or with `*`",
     ),

@@ -118,13 +118,20 @@ NATIVE(jstring, text)(JNIEnv *env, jclass self, jint call, jlong address, jint n
     return is_same ? NULL : written(env, outcome, buffer);
 }
 
-NATIVE(jbyteArray, record)(JNIEnv *env, jclass self, jlong registry, jint number, jlongArray ended) {
+NATIVE(jbyteArray, record)(JNIEnv *env, jclass self, jlong registry, jint number, jlongArray ended, jobjectArray lengths) {
     bcp47_field *fields;
     const char *texts;
     size_t length = 0;
     bcp47_outcome outcome = bcp47_record(registry_of(registry), (uint32_t)number, &fields, &texts);
-    for (size_t i = 0; fields && i < outcome.place; i++) length += fields[i].name + fields[i].body + 2;
-    jbyteArray made = is_done(env, ended, outcome) ? (*env)->NewByteArray(env, (jsize)length) : NULL;
+    size_t count = is_done(env, ended, outcome) ? outcome.place : 0;
+    jintArray each = (*env)->NewIntArray(env, (jsize)(2 * count));
+    for (size_t i = 0; each && i < count; i++) {
+        jint both[] = {(jint)fields[i].name, (jint)fields[i].body};
+        (*env)->SetIntArrayRegion(env, each, (jsize)(2 * i), 2, both);
+        length += fields[i].name + fields[i].body + 2;
+    }
+    if (each) (*env)->SetObjectArrayElement(env, lengths, 0, each);
+    jbyteArray made = each ? (*env)->NewByteArray(env, (jsize)length) : NULL;
     if (made) (*env)->SetByteArrayRegion(env, made, 0, (jsize)length, (const jbyte *)texts);
     bcp47_free(fields);
     return made;

@@ -2,7 +2,7 @@ use Rattle.std.proofs.Common.{◌≡◌, ◌∙◌, ◌+◌, ◌++◌, ◌∷◌
 use Rattle.lt_range.specs.Spellings.{Spellings}
 use Rattle.lt_range.proofs.SpellingLemmas.{AmongOn, among_end, among_no, among_yes}
 use Rattle.lt_range.proofs.matching_table.spellings_among.Goals as goal
-use Rattle.lt_range.proofs.matching_table.spellings_among.Goals.{then-are_equal+in_ok-copy_of+in_ok-push, else-are_equal}
+use Rattle.lt_range.proofs.matching_table.spellings_among.Goals.{then-is_of+in_ok-copy_of+in_ok-push, else-is_of}
 
 -- after a turn the lists so far, with those among the rows left, are still those among all: it adds the spelling of its
 -- row, if the row has this canonical form
@@ -13,16 +13,14 @@ loop-row-preserved c =
     let i = c.loop-row.row-index in
     let row = c.row-item.result in
     let lists = c.loop-row.lists.items in
-    elim c.if-are_equal.branch [
-      | then-are_equal+in_ok-copy_of+in_ok-push w ↦
-          let equal : row.canonical ≡ canonical = sym c.subtags.ensures ∙ c.are_equal.ensures.0 w.if-are_equal.true in
-          rw w.lists-is (subst (λ (l : Spellings). AmongOn canonical rows (i + 1) l)
+    elim c.if-is_of.branch [
+      | then-is_of+in_ok-copy_of+in_ok-push w ↦ rw w.lists-is (subst (λ (l : Spellings). AmongOn canonical rows (i + 1) l)
           (sym (w.in_ok-push.ensures.items ∙ ap (λ (x : List (List ℕ)). lists ++ x ∷ [])
-          (w.in_ok-copy_of.ensures ∙ w.subtags-then-are_equal.ensures)))
-          (among_yes canonical rows i row lists c.loop-row-test.true c.row-item.is equal c.loop-row.invariant))
-      | else-are_equal w ↦ rw w.lists-is (among_no canonical rows i row lists c.loop-row-test.true c.row-item.is
-          (λ e. let bad : false ≡ true = sym w.if-are_equal.false ∙ c.are_equal.ensures.1 (c.subtags.ensures
-          ∙ e) in cc) c.loop-row.invariant)
+          (w.in_ok-copy_of.ensures ∙ w.subtags.ensures)))
+          (among_yes canonical rows i row lists c.loop-row-test.true c.row-item.is (c.is_of.ensures.0 w.if-is_of.true)
+          c.loop-row.invariant))
+      | else-is_of w ↦ rw w.lists-is (among_no canonical rows i row lists c.loop-row-test.true c.row-item.is
+          (λ e. let bad : false ≡ true = sym w.if-is_of.false ∙ c.is_of.ensures.1 e in cc) c.loop-row.invariant)
     ]
 
 -- the lists are those among all rows: none is left

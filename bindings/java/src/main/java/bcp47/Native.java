@@ -38,8 +38,8 @@ final class Native {
      */
     static native String text(int call, long registry, int number, byte[] first, byte[] second, long[] ended);
 
-    /** The names and bodies of the fields in turn, with a zero after each. */
-    static native byte[] record(long registry, int number, long[] ended);
+    /** The names and bodies of the fields in turn, with a zero after each; their lengths in bytes go to an array. */
+    static native byte[] record(long registry, int number, long[] ended, int[][] lengths);
 
     /** The tags to which the steps lead, and the canonical one, a line each; the kind, place and number of each step go to an array. */
     static native String explain(long registry, byte[] tag, long most, long[] ended, int[][] steps);

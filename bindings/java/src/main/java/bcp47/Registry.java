@@ -236,9 +236,13 @@ public final class Registry implements AutoCloseable {
      */
     public List<Field> record(int number) {
         long[] ended = Native.ended();
-        byte[] all = held.ask(registry -> Native.record(registry, number, ended));
+        int[][] lengths = new int[1][];
+        byte[] all = held.ask(registry -> Native.record(registry, number, ended, lengths));
         Refusal.of(ended, null);
-        String[] texts = new String(all, StandardCharsets.UTF_8).split("\0", -1);
+        String[] texts = new String[lengths[0].length];
+        for (int i = 0, at = 0; i < texts.length; at += lengths[0][i] + 1, i++) {
+            texts[i] = new String(all, at, lengths[0][i], StandardCharsets.UTF_8);
+        }
         return IntStream.range(0, texts.length / 2).mapToObj(i -> new Field(texts[2 * i], texts[2 * i + 1])).toList();
     }
 

@@ -210,6 +210,10 @@ final class Calls {
         is(true, Tag.of("zh").parent() == null);
         is("[Field[name=File-Date, body=2024-01-01]]", registry.record(1).toString());
         is(List.of(), registry.record(-1));
+        String records = "File-Date: 2000-01-01\n%%\nType: language\nSubtag: de\nDescription: a\0b\nAdded: 2005-10-16\n";
+        try (Registry zero = Registry.of(records.getBytes(StandardCharsets.UTF_8))) {
+            is("[language, de, a\0b, 2005-10-16]", zero.record(2).stream().map(Field::body).toList().toString());
+        }
     }
 
     private static void readers(byte[] content) throws Exception {
