@@ -52,8 +52,10 @@ impl<L: Lookup> Model for MatchingTable<L> {
     ghost invariant = { λ t. AreRows (L.listed t.checked) (L.listed t.checked) t.rows.items };
 }
 
+// This one and its callers are not inlined: what they hold of the stack is not held while tags are made canonical.
 /// The row of a whole tag and its canonical form. None if the two are spelled alike. The only refusal is running out of
 /// memory.
+#[inline(never)]
 fn row_of_tag(
     alloc: Global,
     tag: &Tag,
@@ -76,7 +78,6 @@ fn row_of_tag(
     }))
 }
 
-// This one and its callers are not inlined, so that their frames end with them.
 /// The row of a record. None if it is not of a whole tag, or of one that has no canonical form or is canonical. The
 /// only refusal is running out of memory.
 #[inline(never)]
