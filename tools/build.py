@@ -107,8 +107,10 @@ class Lanes:
             idle = self.lanes - sum(jobs for _, _, jobs in self.running.values())
             needs, room = self.tasks[key][2], self.memory - sum(it for _, it, _ in self.running.values())
             if not self.running or idle > 0 and needs <= room:
-                # A second job takes up to twice the processors, so only the longest chain gets one, and only where nothing else can run.
-                is_longest = len(ready) == 1 and all(self.behind[it] <= self.behind[key] for it in self.running)
+                # A second job takes up to twice the processors, so only the longest chain gets one, and only where nothing else can run but
+                # edits, for which nothing waits.
+                others = [it for it in ready if it != key and it[1] != "edits"]
+                is_longest = not others and all(self.behind[it] <= self.behind[key] for it in self.running)
                 jobs = 2 if is_longest and idle > 1 and 1.6 * needs <= room else 1
                 self.running[key] = time.time(), needs * (1 + 0.6 * (jobs - 1)), jobs
                 call = self.tasks[key][3] if all(self.given[it] for it in self.tasks[key][0]) else lambda given, jobs: None
