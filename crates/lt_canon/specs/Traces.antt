@@ -57,7 +57,8 @@ of_invalid checks.OutOfMemory = faults.OutOfMemory
 abbrev pub no_trace_memory : TraceFault
 no_trace_memory = faults.OutOfMemory
 
--- why the steps of a trace lead to no end; OutOfMemory may be answered of any trace
+-- with what following the steps of a trace is refused: it asks neither whether the tag is valid nor where the steps
+-- should end, so with neither Invalid nor WrongEnd; OutOfMemory may be answered of any trace
 abbrev pub IsFollowFault : List EntryParts → TagForm → List Step → TraceFault → Type 0
 IsFollowFault R t steps (faults.Invalid fault) = ⊥
 IsFollowFault R t steps (faults.NoSuchStep n) = IsMisstep R t steps n

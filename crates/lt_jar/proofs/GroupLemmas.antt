@@ -1,5 +1,6 @@
 -- A group is the fields between two separators. Lines are groups in only one way, so a text has one list of records at
--- most. And what one more line makes of groups, which records groups make, and how many records begin in their lines.
+-- most: they are parsed back to front (`parsed`). And what one more line makes of the body of a field and of groups,
+-- which records groups make, and how many records begin in their lines.
 use Rattle.std.proofs.Common.{◌≡◌, ◌∙◌, ◌++◌, ◌∷◌, ℕ, List, [], true, refl, sym, ap, append_assoc, append-nil, map}
 use Rattle.std.proofs.Common.{Bool, false, Result, Ok, nat_lt, ◌+◌, ◌&&◌, arith, length, length-append, MatchResult}
 use Rattle.std.specs.List.{filter, flat_map}
@@ -14,6 +15,8 @@ use Rattle.std.proofs.lemmas.Grind.{flat_map-append}
 use Rattle.lt_jar.specs.Limits.{most_records}
 use Rattle.lt_jar.specs.Faults.{Fault, begun, is_inside}
 use Rattle.lt_jar.specs.Lines.{lines_of}
+
+-- ---- the body of a field
 
 -- joining one more text to others puts a space (32) and that text after them
 joined_last : (first : List ℕ) (rest : List (List ℕ)) (text : List ℕ) → joined (first ∷ (rest ++ text ∷ []))
@@ -49,6 +52,8 @@ joined_more : (texts : List (List ℕ)) (text : List ℕ) → joined (filter is_
 joined_more texts [] = ap joined (filter-append is_something texts ([] ∷ []) ∙ append-nil (filter is_something texts))
     ∙ sym (joined_single (joined (filter is_something texts)))
 joined_more texts (byte ∷ text) = ap joined (filter-append is_something texts ((byte ∷ text) ∷ [])) ∙ joined_more_some texts byte text
+
+-- ---- one more line
 
 -- the group of fields, with this text as one more continuation line of the last field
 abbrev group_continued : List ℕ → List Written → List Written
@@ -168,6 +173,8 @@ pub leaves_more : (lines : List Line) (going : Going) (kind : Line) (n : ℕ) �
     → Makes (lines ++ filter is_nonblank (kind ∷ [])) going (take_kind n going.fields kind)
 leaves_more lines going kind n before = rw (before.lines_are, before.going_is) (after_kind n before.ended before.last kind)
 
+-- ---- how many records begin
+
 -- how many records begin in two lists of lines: those of the first, and those of the second, at whose front a record
 -- goes on if the first leaves one
 pub begun-append : (inside : Bool) (xs ys : List Line) → begun inside (xs ++ ys) ≡ begun inside xs + begun (is_inside inside xs) ys
@@ -263,6 +270,8 @@ pub begun-groups : (ended : List (List Written)) (last : List Written) → begun
 begun-groups ended last = simp (length-map, filter-append, length-append)
     (omega (arith, (past_ended ended (lines_of_group last)).1, (past_last last).1))
 
+-- ---- one list of groups
+
 -- what lines are parsed to: the texts of the continuations at their front, and the groups after them
 abbrev Parsed : Type 0
 Parsed = List (List ℕ) × List (List Written)
@@ -280,7 +289,8 @@ parsed (Continuation text ∷ lines) = (text ∷ (parsed lines).0, (parsed lines
 parsed (Start name body ∷ lines) = ([], with_field (record { name = name; first = body; more = (parsed lines).0 }) (parsed lines).1)
 parsed (line ∷ lines) = parsed lines
 
--- continuation lines in front of lines that no continuation begins are parsed to their texts
+-- continuation lines in front of lines that no continuation begins are parsed to their texts (the `let` gives a pair
+-- its type)
 parsed-texts : (texts : List (List ℕ)) (lines : List Line) (groups : List (List Written))
     → parsed lines ≡ (let p : Parsed = ([], groups) in p)
     → parsed (map Continuation texts ++ lines) ≡ (let p : Parsed = (texts, groups) in p)

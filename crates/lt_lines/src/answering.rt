@@ -269,7 +269,8 @@ impl Answering {
         requires room { spec.HasRoom self.old 1 }
         requires count { count ≤ length text.now }
         requires look { IsAhead form self.old.kept.items (take count text.now) look.now }
-        ensures taken { OnOk result ((bytes out : List ℕ) → spec.IsWholeAfter form self.old.kept.items self.old.place (take count text.now) → spec.IsTaken (terms (ground_of L.listed basis.now) form) bytes out self.old
+        ensures taken { OnOk result ((bytes out : List ℕ) → spec.IsWholeAfter form self.old.kept.items self.old.place (take count text.now)
+            → spec.IsTaken (terms (ground_of L.listed basis.now) form) bytes out self.old
             → spec.IsTaken (terms (ground_of L.listed basis.now) form) (bytes ++ (take count text.now ++ 10 ∷ [])) out self.new) }
         ensures kept { OnOk result (self.new.kept.items ≡ []) }
         ensures counted { OnOk result (spec.CountsFeed self.old self.new) }
@@ -293,6 +294,7 @@ impl Answering {
             &form,
             self.counts.lines + 1,
             line_at(&self.kept, &text[..count]),
+            // What is owed only grew; `min` spares the proof of that.
             &self.owed[start.min(self.owed.len())..],
             refused,
         )?;

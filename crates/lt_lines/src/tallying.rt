@@ -33,6 +33,7 @@ fn told_in<'a>(form: LineForm, line: &[u8], answer: &'a [u8]) -> &'a [u8]
             without_return(line).len() + separators_in(row)
         }
     };
+    // No answer of this form is shorter; `min` spares the proof of that.
     &answer[before.min(answer.len())..]
 }
 

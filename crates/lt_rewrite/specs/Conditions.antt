@@ -101,8 +101,9 @@ second_entry R [] (v ∷ vs) = entry R kinds.Variant v
 second_entry R [] [] = None
 
 -- A grandfathered record names one of the 26 grandfathered tags (`named`). If one of these tags would be valid when
--- read as a langtag, then the record, whatever its kind, is not the entry of the tag's second subtag (`regular`). So
--- none is valid as a langtag if all records meet this condition (C8; RFC 5646, 2.2.8).
+-- read as a langtag, then the record, whatever its kind, is not the entry of the tag's second subtag (`regular`). That
+-- subtag would have an entry, which is then the record at fault: so if all records meet this condition, none of the 26
+-- is valid as a langtag (C8; RFC 5646, 2.2.8).
 pub record HasFittingGrandfathered (R : List EntryParts) (e : EntryParts) : Type 0 where
   pub named : e.kind ≡ kinds.Grandfathered → (number : ℕ) × (e.name ≡ names.Whole (Grandfathered number))
   pub regular : (c : CoreParts) (number : ℕ) → IsCore c → IsGrandfathered (spell_core c) number → IsProperCore R c →

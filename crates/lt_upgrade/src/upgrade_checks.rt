@@ -205,8 +205,8 @@ fn have_same_variant_language<L: Lookup>(
     }
 }
 
-/// U5: whether a variant whose value is a language has such a value in the older registry too, if it is registered
-/// there. True of any other record.
+/// U5: whether a variant of the newer registry whose value is a language has such a value in the older registry too, if
+/// it is registered there. True of any other record.
 #[tactic(auto, using(crate::proofs::UpgradeChecks::had_compared))]
 pub(crate) fn had_variant_language<L: Lookup>(older: &L, entry: &Entry) -> bool
     ensures { IsTrue result ↔ HadVariantLanguage (L.listed older.now) entry.now }
