@@ -52,10 +52,8 @@ impl<L: Lookup> Model for MatchingTable<L> {
     ghost invariant = { λ t. AreRows (L.listed t.checked) (L.listed t.checked) t.rows.items };
 }
 
-// This one and its callers are not inlined: what they hold of the stack is not held while tags are made canonical.
 /// The row of a whole tag and its canonical form. None if the two are spelled alike. The only refusal is running out of
 /// memory.
-#[inline(never)]
 fn row_of_tag(
     alloc: Global,
     tag: &Tag,
@@ -80,7 +78,6 @@ fn row_of_tag(
 
 /// The row of a record. None if it is not of a whole tag, or of one that has no canonical form or is canonical. The
 /// only refusal is running out of memory.
-#[inline(never)]
 fn row_of<L: Lookup>(
     alloc: Global,
     checked: &Checked<L>,
@@ -101,7 +98,6 @@ fn row_of<L: Lookup>(
 }
 
 /// The rows of all records, in their order. The only refusal is running out of memory.
-#[inline(never)]
 fn rows_of<L: Lookup>(
     alloc: Global,
     checked: &Checked<L>,
@@ -151,7 +147,6 @@ fn spellings_among(
 impl<L: Lookup + Drop> MatchingTable<L> {
     /// Prepares a table for matching: makes the whole tags of its records canonical, some hundred in IANA's registry.
     /// The only refusal is running out of memory.
-    #[inline(never)]
     pub fn new(alloc: Global, checked: Checked<L>) -> Result<MatchingTable<L>, OutOfMemory>
         ensures { IfOk result (λ table. table ≡ checked) }
     {

@@ -26,18 +26,6 @@ pub(crate) fn rank_of(subtag: &Subtag) -> u128
     length * NUMBERS + subtag.number() as u128
 }
 
-/// The numbers of subtags, in an array of 256, so that nothing is allocated. There must be at most 256.
-fn numbers_of(subtags: &[Subtag]) -> ArrayVec<u64, 256>
-    requires { length subtags.now ≤ 256 }
-    ensures { result.items ≡ map lanes.number subtags.now }
-{
-    let mut numbers = ArrayVec::new();
-    for subtag in subtags {
-        numbers.push(subtag.number());
-    }
-    numbers
-}
-
 /// Whether all numbers are different. They are left sorted. The clause says only what true means, which is all that
 /// `many_differ` needs.
 fn differ(numbers: &mut [u64]) -> bool
@@ -47,6 +35,20 @@ fn differ(numbers: &mut [u64]) -> bool
     numbers.is_sorted_by(|number, next| number < next)
 }
 
+/// True only if the numbers of all subtags are different. There must be at most 256, so that the numbers are in an array
+/// and nothing is allocated. It is not inlined, so that only a tag of many variants needs stack for the array.
+#[inline(never)]
+fn numbers_differ(subtags: &[Subtag]) -> bool
+    requires { length subtags.now ≤ 256 }
+    ensures { result ≡ true → IsDistinct (eq_by_cmp nat_cmp) (map lanes.number subtags.now) }
+{
+    let mut numbers: ArrayVec<u64, 256> = ArrayVec::new();
+    for subtag in subtags {
+        numbers.push(subtag.number());
+    }
+    differ(&mut numbers)
+}
+
 /// True only if all subtags are different, as a sort of their numbers shows. Fewer than 16 subtags, which are quickly
 /// compared pair by pair, and more than 256, whose numbers don't fit the array, are not sorted: the answer is false,
 /// even if all of them are different.
@@ -54,8 +56,5 @@ fn differ(numbers: &mut [u64]) -> bool
 pub(crate) fn many_differ(subtags: &[Subtag]) -> bool
     ensures { result ≡ true → Distinct subtags.now }
 {
-    if subtags.len() < 16 || 256 < subtags.len() {
-        return false;
-    }
-    differ(&mut numbers_of(subtags))
+    16 <= subtags.len() && subtags.len() <= 256 && numbers_differ(subtags)
 }
